@@ -1,0 +1,59 @@
+// What document 01 counts with, and how its answers are put in Rattle.
+
+// The most keywords of a set, bytes of a keyword, rows of a set and bytes of a trace.
+pub const KEYWORDS: usize = 64;
+
+pub const LONGEST: usize = 15;
+
+pub const ROWS: usize = 961;
+
+pub const TRACE: usize = 1048576;
+
+// The bytes of a keyword's record.
+pub const RECORD: usize = 18;
+
+// The way a keyword is read: from its first byte onwards, or from its last byte backwards.
+pub enum Way {
+    Forward,
+    Backward,
+}
+
+// Why a call is refused. `numberOf` and `placeOf` in specs/Answers.antt give document 01's number and place of each.
+pub enum Refusal {
+    SetEmpty,
+    SetSize,
+    TooManyKeywords,
+    Length { record: u16 },
+    Padding { record: u16 },
+    Repeated { record: u16 },
+    TooManyRows,
+    TraceTooLong,
+    WorkspaceShort { rows: u16 },
+    RowFileSize { rows: u16 },
+    RowNamesAnother { row: u16 },
+    RowNumber { row: u16 },
+    ByteFileSize,
+    FarNumber { place: u16 },
+    RowBufferShort { rows: u16 },
+    ByteBufferShort,
+    AnswerShort,
+}
+
+// What a scan found.
+pub struct Totals {
+    pub count: u32,
+    pub questions: u32,
+    pub energy: u64,
+}
+
+// The answer of a scan.
+pub enum Scanned {
+    Found(Totals),
+    Refused(Refusal),
+}
+
+// The answer of making and of the check: how many rows.
+pub enum Tabled {
+    Rows(u16),
+    Refused(Refusal),
+}
