@@ -1,0 +1,23 @@
+-- The laws of the definitions, in the order in which they lean on each other.
+pub mod Lists
+pub mod Strings
+pub mod Sound
+pub mod Verdicts
+pub mod Sets
+pub mod Rows
+pub mod Count
+pub mod Children
+pub mod State
+pub mod Questions
+pub mod Dictionary
+pub mod Orders
+pub mod Hits
+pub mod Buffers
+pub mod Least
+pub mod Skips
+pub mod Windows
+pub mod Tables
+pub mod Runs
+pub mod Answers
+pub mod Promises
+pub mod Cases
