@@ -6,6 +6,7 @@ pub mod Verdicts
 pub mod Sets
 pub mod Rows
 pub mod Count
+pub mod Common
 pub mod Children
 pub mod State
 pub mod Questions

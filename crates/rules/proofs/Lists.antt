@@ -1,8 +1,8 @@
 -- Facts about lists that the library lacks: each by recursion along the list, or by a cut at a place.
-use Prim.Native.Nat.{ℕ, zero, suc, _+_, _-_, _*_, _≤_, _<_}
+use Prim.Native.Nat.{ℕ, suc, _-_, _<_}
 use native.Mathlib.Omega.{arith}
-use mathlib.Core.Path.{_≡_, refl, sym, _∙_, ap}
-use mathlib.Core.List.{List, [], _∷_, _++_, reverse, reverse-cons, reverse-append}
+use mathlib.Core.Path.{_≡_, _∙_, ap}
+use mathlib.Core.List.{List, _∷_, _++_, reverse, reverse-cons, reverse-append}
 use lib.ListN.{length, getD, take, drop, length-reverse, length-drop}
 use lib.Seq.{getD-at, append-snoc, split-at}
 

@@ -1,9 +1,9 @@
 -- What a set that passed its tests is: each record's tests, taken one record at a time.
-use Prim.Native.Nat.{ℕ, zero, suc, _+_, _-_, _*_, _/_, _%_, _≤_, _<_, min}
-use mathlib.Core.Path.{_≡_, refl, sym, _∙_, ap, subst}
-use mathlib.Core.Logic.{_⊎_, inl, inr, ⊎-elim}
-use mathlib.Core.Bool.{Bool, true, false, not, _||_}
-use mathlib.Core.List.{List, [], _∷_, _++_, append-assoc, append-nil, List·Memᴰ, List·Memᴰ·head, List·Memᴰ·tail, List·Memᴰ·not-nil, List·Memᴰ·cases-cons, List·Memᴰ·eq-of-singleton, List·Memᴰ·append-cases, Memᴰ·append-left, Memᴰ·append-right}
+use Prim.Native.Nat.{ℕ, zero, suc, _+_, _-_, _*_, _/_, _%_, _≤_, _<_}
+use mathlib.Core.Path.{_≡_, refl, sym, _∙_, ap}
+use mathlib.Core.Logic.{⊎-elim}
+use mathlib.Core.Bool.{true, false, not, _||_}
+use mathlib.Core.List.{List, [], _∷_, _++_, append-nil, List·Memᴰ, List·Memᴰ·head, List·Memᴰ·tail, List·Memᴰ·not-nil, List·Memᴰ·cases-cons, Memᴰ·append-left, Memᴰ·append-right}
 use lib.ListN.{length, take, drop, getD, length-take, length-drop, take-append-drop}
 use lib.Seq.{drop-drop, append-snoc}
 use lib.Dec.{eqb, ltb}
@@ -15,7 +15,7 @@ use Rattle.rules.specs.Limits.{recordSize, longestWord, mostKeywords, mo
 use Rattle.rules.specs.Strings.{same, any}
 use Rattle.rules.specs.Sets.{Keyword, keywordOf, keywordsFrom, keywords, recordAt, keywordAt, isKeyword}
 use Rattle.rules.specs.Rows.{Way, rowsOf}
-use Rattle.rules.specs.Refusals.{Verdict, pass, refuse, refuseIf, orElse, recordVerdict, recordVerdicts, fileVerdict, rowsVerdict, setVerdict}
+use Rattle.rules.specs.Refusals.{Verdict, pass, refuse, orElse, recordVerdict, recordVerdicts, fileVerdict, rowsVerdict, setVerdict}
 use Rattle.rules.specs.Audit.{Ordered, none, next}
 use Rattle.rules.proofs.Strings.{never, any-mem, eq-same, or-fails-left, or-fails-right}
 use Rattle.rules.proofs.Sound.{Sound}
@@ -55,22 +55,6 @@ getD-keywordsFrom i (suc n) s d zero h = rw add-zero
 getD-keywordsFrom i (suc n) s d (suc j) h =
     let place : suc i + j ≡ i + suc j = omega arith in
     rw (← place, ← drop-records j s, getD-keywordsFrom (suc i) n (drop recordSize s) d j (omega arith))
-
--- a keyword of the list is one of the records'
-pub keywordsFrom-mem : {k : Keyword} (i n : ℕ) (s : List ℕ) → List·Memᴰ k (keywordsFrom i n s) → (j : ℕ) × (j < n) × (k ≡ keywordOf (i + j) (recordAt s j))
-unfolding keywordsFrom recordAt
-keywordsFrom-mem i zero s m = absurd (List·Memᴰ·not-nil m)
-keywordsFrom-mem {k} i (suc n) s m = go (List·Memᴰ·cases-cons m) (keywordsFrom-mem (suc i) n (drop recordSize s))
-  where
-    go : (k ≡ keywordOf i (take recordSize s)) ⊎ List·Memᴰ k (keywordsFrom (suc i) n (drop recordSize s))
-        → (List·Memᴰ k (keywordsFrom (suc i) n (drop recordSize s)) → (j : ℕ) × (j < n) × (k ≡ keywordOf (suc i + j) (recordAt (drop recordSize s) j)))
-        → (j : ℕ) × (j < suc n) × (k ≡ keywordOf (i + j) (recordAt s j))
-    go (inl e) below = (0, omega arith, rw add-zero e)
-    go (inr m′) below =
-        let w = below m′ in
-        let place : suc i + w .0 ≡ i + suc (w .0) = omega arith in
-        let less : w .0 < n = w .1 in
-        (suc (w .0), omega arith, rw (← place, ← drop-records (w .0) s) (w .2))
 
 -- The verdicts, one record at a time.
 pub recordVerdicts-append : (m n i : ℕ) (ks : List Keyword) (s : List ℕ) → recordVerdicts (m + n) i ks s ≡ orElse (recordVerdicts m i ks s) (recordVerdicts n (i + m) (ks ++ keywordsFrom i m s) (drop (recordSize * m) s))
@@ -120,7 +104,9 @@ records-front m n s h p =
     orElse-pass (recordVerdicts m 0 [] s) (front .0) (sym (front .1) ∙ p) .0
 
 pub records-passed : (m n : ℕ) (s : List ℕ) → m < n → recordVerdicts n 0 [] s ≡ pass → verdictAt m s ≡ pass
-records-passed m n s h p = orElse-pass (recordVerdicts m 0 [] s) (verdictAt m s) (sym (recordVerdicts-snoc m s) ∙ records-front (suc m) n s h p) .1
+records-passed m n s h p =
+    let these = records-front (suc m) n s h p in
+    orElse-pass (recordVerdicts m 0 [] s) (verdictAt m s) (sym (recordVerdicts-snoc m s) ∙ these) .1
 
 -- What a record that passed is.
 pub record RecordPassed (i : ℕ) (ks : List Keyword) (r : List ℕ) : Type 0 where
@@ -184,11 +170,16 @@ pub getD-keywords : (s : List ℕ) (d : Keyword) (i : ℕ) → i < length s / re
 unfolding keywords keywordAt
 getD-keywords s d i h = getD-keywordsFrom 0 (length s / recordSize) s d i h ∙ rw zero-add
 
+-- a keyword of the set is some record's
+mem-getD : {k : Keyword} {ks : List Keyword} → List·Memᴰ k ks → (i : ℕ) × (i < length ks) × (getD ks i k ≡ k)
+mem-getD (List·Memᴰ·head e) = (0, omega arith, sym e)
+mem-getD (List·Memᴰ·tail m) = let w = mem-getD m in (suc (w .0), omega (arith, w .1), w .2)
+
 pub keywords-mem : {k : Keyword} (s : List ℕ) → List·Memᴰ k (keywords s) → (i : ℕ) × (i < length s / recordSize) × (k ≡ keywordAt s i)
-unfolding keywords keywordAt
-keywords-mem s m =
-    let w = keywordsFrom-mem 0 (length s / recordSize) s m in
-    (w .0, w .1, w .2 ∙ rw zero-add)
+keywords-mem {k} s m =
+    let w = mem-getD m in
+    let within : w .0 < length s / recordSize = omega (arith, w .1, length-keywords s) in
+    (w .0, within, sym (w .2) ∙ getD-keywords s k (w .0) within)
 
 -- a file that passed has nothing beside its keywords' records
 pub file-length : {s : List ℕ} → FilePassed s → length s ≡ recordSize * length (keywords s)
