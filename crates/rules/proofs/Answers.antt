@@ -44,7 +44,7 @@ answerBy a f zero p = a
 answerBy a f (suc n) p = f (getD (refusals p) n SetEmpty)
 
 answerBy-refusal : {A : Type 0} (a : A) (f : Refusal → A) (r : Refusal) → answerBy a f (numberOf r) (placeOf r) ≡ f r
-unfolding answerBy refusals numberOf placeOf
+unfolding answerBy refusals
 answerBy-refusal a f SetEmpty = refl
 answerBy-refusal a f SetSize = refl
 answerBy-refusal a f TooManyKeywords = refl
@@ -64,7 +64,6 @@ answerBy-refusal a f ByteBufferShort = refl
 answerBy-refusal a f AnswerShort = refl
 
 pub refusal-injective : (r q : Refusal) → numberOf r ≡ numberOf q → placeOf r ≡ placeOf q → r ≡ q
-unfolding toldRefusal
 refusal-injective r q number place =
     read-back (λ (r : Refusal). toldRefusal (numberOf r) (placeOf r))
     (λ (a : Told). answerBy SetEmpty (λ r. r) (a .number) (a .place))
@@ -74,7 +73,7 @@ refusal-injective r q number place =
     (rw (number, place))
 
 pub told-injective : (r q : Scanned) → told r ≡ told q → r ≡ q
-unfolding told toldRefusal answerBy
+unfolding answerBy
 told-injective = read-back told scannedBy back
   where
     found : Told → Scanned
@@ -88,7 +87,7 @@ told-injective = read-back told scannedBy back
     back (Scanned.Refused r) = answerBy-refusal (found (told (Scanned.Refused r))) Scanned.Refused r
 
 pub told-table-injective : (r q : Tabled) → toldTable r ≡ toldTable q → r ≡ q
-unfolding toldTable toldRows toldRefusal answerBy
+unfolding answerBy
 told-table-injective = read-back toldTable tabledBy back
   where
     tabledBy : Told → Tabled

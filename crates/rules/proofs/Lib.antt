@@ -4,13 +4,17 @@ pub mod Strings
 pub mod Sound
 pub mod Verdicts
 pub mod Sets
+pub mod Bytes
 pub mod Rows
+pub mod PrefixRows
 pub mod Count
 pub mod Common
 pub mod Children
+pub mod Listed
 pub mod State
 pub mod Questions
 pub mod Dictionary
+pub mod Keys
 pub mod Orders
 pub mod Hits
 pub mod Buffers

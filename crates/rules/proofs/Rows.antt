@@ -473,6 +473,12 @@ rows-below way ks ls k u v e =
     let (more, kept) = rowsOf-keeps way ks ls k u v e in
     omega (arith, ap length kept, length-append (meet (rowsOf way ks) (prefixes u)) more)
 
+-- more keywords have no fewer rows
+pub rows-grow : (way : Way) (ks ls : List Keyword) → length (rowsOf way ks) ≤ length (rowsOf way (ks ++ ls))
+unfolding meet prefixes
+rows-grow way ks [] = rw (append-nil ks) (omega arith)
+rows-grow way ks (k ∷ ls) = rows-below way ks ls k [] (readBy way (k .word)) refl
+
 -- How many rows there are at most: row 0 and one for each byte of a keyword.
 unfoldable pub total : List Keyword → ℕ
 total [] = 0

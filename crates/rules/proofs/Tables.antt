@@ -21,7 +21,7 @@ use Rattle.rules.proofs.Sound.{Sound}
 use Rattle.rules.proofs.Verdicts.{orElse-exactly, test-exactly}
 use Rattle.rules.proofs.Rows.{row-at}
 use Rattle.rules.proofs.Skips.{inner-pos, edge-pos, far-pos}
-use Rattle.rules.proofs.Windows.{row-short}
+use Rattle.rules.proofs.PrefixRows.{row-short}
 
 -- a number that a file may hold
 pub record Allowed (largest n : ℕ) : Type 0 where
@@ -251,7 +251,7 @@ named-length v h = omega (arith, length-append v (replicate (longestWord - lengt
 pub suffix-short : {ks : List Keyword} → Sound ks → (i : ℕ) → i < length (rowsOf backward ks) → length (getD (suffixRows ks) i []) ≤ longestWord
 suffix-short {ks} sound i h =
     let row : List ℕ = getD (rowsOf backward ks) i [] in
-    rw (suffixRows-at ks i, length-reverse row) (row-short sound row (row-at (rowsOf backward ks) i row h refl))
+    rw (suffixRows-at ks i, length-reverse row) (row-short backward sound row (row-at (rowsOf backward ks) i row h refl))
 
 -- the made row file, record by record
 abbrev pub recordOf : List Keyword → List ℕ → List ℕ

@@ -13,6 +13,7 @@ use Rattle.rules.specs.Hits.{endingAt}
 use Rattle.rules.specs.Runs.{Window, Stop, start, missing, windowFrom, windowAt, askedOf, asked, entered}
 use Rattle.rules.proofs.Strings.{never, fails, same-true, begins-true, any-true, ends-by}
 use Rattle.rules.proofs.Sound.{Sound}
+use Rattle.rules.proofs.PrefixRows.{filled-rows, row-short}
 use Rattle.rules.proofs.Rows.{rows-are, starts-closed, keyword-starts, prefixes-snoc, root-row, rowed-rows}
 use Rattle.rules.proofs.Skips.{stopOf}
 
@@ -67,29 +68,14 @@ reading rows s (c ∷ before) h = go (any (same (s ++ (c ∷ []))) rows) refl (r
           childless = λ b e. let at : c ≡ b = cc in rw (← at) q;
         }
 
--- the backward rows of a good set are as short as keywords, and a keyword that goes on behind a row needs the row's child
-pub row-starts : {ks : List Keyword} → Sound ks → (s : List ℕ) → any (same s) (rowsOf backward ks) ≡ starts backward ks s
-row-starts {ks} sound s = go ks (sound .some)
-  where
-    go : (ks : List Keyword) → 1 ≤ length ks → any (same s) (rowsOf backward ks) ≡ starts backward ks s
-    go [] some = absurd (omega arith)
-    go (k ∷ ks) some = rows-are backward k ks s
-
-pub row-short : {ks : List Keyword} → Sound ks → (s : List ℕ) → any (same s) (rowsOf backward ks) ≡ true → length s ≤ longestWord
-unfolding starts readBy
-row-short {ks} sound s h =
-    let begun : starts backward ks s ≡ true = sym (row-starts sound s) ∙ h in
-    let found = any-true (λ (k : Keyword). begins s (readBy backward (k .word))) ks begun in
-    let rest = begins-true s (reverse (found .0 .word)) (found .2) in
-    omega (arith, sound .short (found .0) (found .1), length-reverse (found .0 .word), ap length (rest .1), length-append s (rest .0))
-
+-- a keyword that goes on behind a row needs the row's child
 pub row-needed : {ks : List Keyword} → Sound ks → {k : Keyword} → List·Memᴰ k ks → (s : List ℕ) (c : ℕ) (more : List ℕ)
     → reverse (k .word) ≡ s ++ (c ∷ more)
     → any (same (s ++ (c ∷ []))) (rowsOf backward ks) ≡ true
 unfolding readBy
 row-needed {ks} sound {k} listed s c more e =
     let whole : s ++ (c ∷ []) ++ more ≡ reverse (k .word) = append-assoc s (c ∷ []) more ∙ sym e in
-    row-starts sound (s ++ (c ∷ []))
+    filled-rows backward ks (sound .some) (s ++ (c ∷ []))
     ∙ starts-closed backward ks (s ++ (c ∷ [])) more (rw whole (keyword-starts backward ks k listed))
 
 -- a window byte by byte: it goes on to a child, or it stops
@@ -110,7 +96,7 @@ unfolding windowAt
 window-reading ks t e = reading (rowsOf backward ks) [] (reverse (take e t)) (root-row (rowed-rows backward ks))
 
 pub window-short : {ks : List Keyword} → Sound ks → (t : List ℕ) (e : ℕ) → length (windowAt (rowsOf backward ks) t e .read) ≤ longestWord
-window-short {ks} sound t e = row-short sound (windowAt (rowsOf backward ks) t e .read) (window-reading ks t e .row)
+window-short {ks} sound t e = row-short backward sound (windowAt (rowsOf backward ks) t e .read) (window-reading ks t e .row)
 
 pub asked-few : {ks : List Keyword} → Sound ks → (t : List ℕ) (e : ℕ) → asked (windowAt (rowsOf backward ks) t e) ≤ suc longestWord
 unfolding asked askedOf

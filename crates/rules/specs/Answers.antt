@@ -7,7 +7,7 @@ use Rattle.rules.specs.declared.Totals.{Totals}
 use Rattle.rules.specs.declared.Scanned.{Scanned}
 use Rattle.rules.specs.declared.Tabled.{Tabled}
 
-unfoldable pub numberOf : Refusal → ℕ
+abbrev pub numberOf : Refusal → ℕ
 numberOf SetEmpty = 1
 numberOf SetSize = 2
 numberOf TooManyKeywords = 3
@@ -26,7 +26,7 @@ numberOf (RowBufferShort n) = 15
 numberOf ByteBufferShort = 16
 numberOf AnswerShort = 17
 
-unfoldable pub placeOf : Refusal → ℕ
+abbrev pub placeOf : Refusal → ℕ
 placeOf SetEmpty = 0
 placeOf SetSize = 0
 placeOf TooManyKeywords = 0
@@ -54,19 +54,19 @@ pub record Told : Type 0 where
   pub energy : ℕ
 
 -- on a refusal the last three are zero
-unfoldable pub toldRefusal : ℕ → ℕ → Told
+abbrev pub toldRefusal : ℕ → ℕ → Told
 toldRefusal n p = record { number = n; place = p; count = 0; questions = 0; energy = 0 }
 
-unfoldable pub told : Scanned → Told
+abbrev pub told : Scanned → Told
 told (Scanned.Found t) =
     record { number = 0; place = 0; count = t .count; questions = t .questions; energy = t .energy }
 told (Scanned.Refused r) = toldRefusal (numberOf r) (placeOf r)
 
 -- making and the check answer the number of rows: it stands where a scan has its count
-unfoldable pub toldRows : ℕ → Told
+abbrev pub toldRows : ℕ → Told
 toldRows n = record { number = 0; place = 0; count = n; questions = 0; energy = 0 }
 
-unfoldable pub toldTable : Tabled → Told
+abbrev pub toldTable : Tabled → Told
 toldTable (Tabled.Rows n) = toldRows n
 toldTable (Tabled.Refused r) = toldRefusal (numberOf r) (placeOf r)
 

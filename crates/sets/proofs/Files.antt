@@ -10,7 +10,6 @@ use Rattle.rules.specs.declared.Refusal.the-variants.{SetEmpty, SetSize, TooMan
 use Rattle.rules.specs.Limits.{recordSize, mostKeywords}
 use Rattle.rules.specs.Sets.{keywordsFrom, recordAt}
 use Rattle.rules.specs.Refusals.{refuseIf, orElse, recordVerdict, recordVerdicts, fileVerdict}
-use Rattle.rules.specs.Answers.{numberOf, placeOf}
 use Rattle.rules.proofs.Sets.{records-refused, length-keywords}
 use Rattle.sets.specs.Words.{Good, Tested, verdictOf}
 use Rattle.sets.specs.declared.Verified.the-variants.{Keywords, Refused}
@@ -25,17 +24,17 @@ tested-refused p =
 
 module _ (s : List ℕ) where
   pub tested-empty : length s ≡ 0 → Tested s (Refused SetEmpty)
-  unfolding verdictOf numberOf placeOf fileVerdict orElse refuseIf
+  unfolding verdictOf fileVerdict orElse refuseIf
   tested-empty e = tested-refused (rw (eq-eqb (length s) 0 e))
 
   module _ (filled : length s ≡ 0 → ⊥) where
     pub tested-size : (length s % recordSize ≡ 0 → ⊥) → Tested s (Refused SetSize)
-    unfolding verdictOf numberOf placeOf fileVerdict orElse refuseIf
+    unfolding verdictOf fileVerdict orElse refuseIf
     tested-size f = tested-refused (rw (ne-eqb (length s) 0 filled, ne-eqb (length s % recordSize) 0 f))
 
     module _ (whole : length s % recordSize ≡ 0) where
       pub tested-many : mostKeywords < length s / recordSize → Tested s (Refused TooManyKeywords)
-      unfolding verdictOf numberOf placeOf fileVerdict orElse refuseIf
+      unfolding verdictOf fileVerdict orElse refuseIf
       tested-many h =
           tested-refused
           (rw (ne-eqb (length s) 0 filled, eq-eqb (length s % recordSize) 0 whole, lt-ltb mostKeywords (length s / recordSize) h))

@@ -1,7 +1,6 @@
 -- Each way out is the first test of the record that shows a fault, and the last where none does.
 use mathlib.Core.Path.{sym, _∙_}
 use borrow.Author.Needs.{needs}
-use Rattle.rules.specs.Answers.{numberOf, placeOf}
 use Rattle.sets.specs.Words.{verdictOf}
 use Rattle.sets.proofs.Judged.{judged-empty, judged-long, judged-padding, judged-repeated, judged-pass}
 use Rattle.sets.proofs.verify_record.Statement.{statement}
@@ -14,13 +13,13 @@ length-of-requires : tie.Need-length-of-requires
 length-of-requires c κs = search needs
 
 returns : tie.Need-returns
-unfolding verdictOf numberOf placeOf
+unfolding verdictOf
 returns c =
     let b = c .before in
     judged-empty _ _ _ _ (b .before .before .pre .1) (b .length-of .ensures .0) (c .if1 .taken)
 
 returns-2 : tie.Need-returns-2
-unfolding verdictOf numberOf placeOf
+unfolding verdictOf
 returns-2 c =
     let b = c .before .before in
     judged-long _ _ _ _ (b .before .before .pre .1) (b .length-of .ensures .0) (c .if2 .taken)
@@ -29,7 +28,7 @@ unpadded-requires : tie.Need-unpadded-requires
 unpadded-requires c κs = search needs
 
 returns-3 : tie.Need-returns-3
-unfolding verdictOf numberOf placeOf
+unfolding verdictOf
 returns-3 c =
     let b = c .before .before .before .before in
     judged-padding _ _ _ _ (b .before .before .pre .1) (b .length-of .ensures .0)
@@ -41,7 +40,7 @@ repeated-requires : tie.Need-repeated-requires
 repeated-requires c κs = search needs
 
 returns-4 : tie.Need-returns-4
-unfolding verdictOf numberOf placeOf
+unfolding verdictOf
 returns-4 c =
     let d = c .before .before .before in
     let b = d .before .before .before in
@@ -55,7 +54,7 @@ add-t12 : tie.Need-add-t12
 add-t12 c = search needs
 
 returns-5 : tie.Need-returns-5
-unfolding verdictOf numberOf placeOf
+unfolding verdictOf
 returns-5 c =
     let d = c .before .before .before in
     let b = d .before .before .before in
