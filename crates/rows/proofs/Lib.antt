@@ -9,3 +9,4 @@ pub mod Depth
 pub mod Spelling
 pub mod Building
 pub mod Laying
+pub mod Admissions

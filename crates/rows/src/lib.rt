@@ -4,6 +4,7 @@ pub mod tree; // tree.rt: the child question, and one row more
 pub mod build; // build.rt: the rows of a set
 pub mod failures; // failures.rt: the step that follows failures, and the failure of one row
 pub mod levels; // levels.rt: the failures of all rows
+pub mod enter; // enter.rt: the tests that every job begins with
 
 use rules::Way;
 ghost use mathlib.Core.Path.{_≡_};

@@ -4,6 +4,7 @@ pub mod Strings
 pub mod Sound
 pub mod Verdicts
 pub mod Sets
+pub mod Refused
 pub mod Bytes
 pub mod Rows
 pub mod PrefixRows
@@ -18,6 +19,8 @@ pub mod Keys
 pub mod Orders
 pub mod Hits
 pub mod Buffers
+pub mod Pairs
+pub mod Numbers
 pub mod Least
 pub mod Skips
 pub mod Windows

@@ -1,0 +1,60 @@
+-- No refusal has the number 0, which says that there is none: each test's number is in the table, and so is the first's.
+use Prim.Native.Nat.{ℕ, zero, suc, _≤_, _/_, _%_}
+use mathlib.Core.Path.{_≡_}
+use mathlib.Core.Bool.{Bool, true, false}
+use mathlib.Core.List.{List, [], _++_, _∷_}
+use lib.ListN.{length, take, drop}
+use native.Mathlib.Omega.{arith}
+use Rattle.rules.specs.Limits.{recordSize}
+use Rattle.rules.specs.Sets.{Keyword, keywordOf}
+use Rattle.rules.specs.Rows.{Way}
+use Rattle.rules.specs.Refusals.{Verdict, pass, refuse, refuseIf, orElse, recordVerdict, recordVerdicts, fileVerdict, rowsVerdict, setVerdict, traceVerdict, workspaceVerdict}
+
+abbrev pub Numbered : Verdict → Type 0
+Numbered v = (p : ℕ) → v ≡ refuse 0 p → ⊥
+
+pub numbered-pass : Numbered pass
+numbered-pass p e = let z : _≡_ {A = ℕ} 0 1 = cc in omega arith
+
+pub numbered-if : (b : Bool) (n p : ℕ) → 1 ≤ n → Numbered (refuseIf b n p)
+unfolding refuseIf
+numbered-if true n p some q e = let z : n ≡ 0 = cc in omega arith
+numbered-if false n p some q e = numbered-pass q e
+
+pub numbered-both : (v w : Verdict) → Numbered v → Numbered w → Numbered (orElse v w)
+unfolding orElse
+numbered-both pass w f g = g
+numbered-both (refuse n p) w f g = f
+
+-- the tests of a set, a trace and a workspace
+numbered-record : (i : ℕ) (ks : List Keyword) (r : List ℕ) → Numbered (recordVerdict i ks r)
+unfolding recordVerdict
+numbered-record i ks r =
+    numbered-both _ _ (numbered-if _ 4 i (omega arith))
+    (numbered-both _ _ (numbered-if _ 5 i (omega arith)) (numbered-if _ 6 i (omega arith)))
+
+numbered-records : (n i : ℕ) (ks : List Keyword) (s : List ℕ) → Numbered (recordVerdicts n i ks s)
+unfolding recordVerdicts
+numbered-records zero i ks s = numbered-pass
+numbered-records (suc n) i ks s =
+    let r : List ℕ = take recordSize s in
+    numbered-both _ _ (numbered-record i ks r) (numbered-records n (suc i) (ks ++ (keywordOf i r ∷ [])) (drop recordSize s))
+
+pub numbered-file : (s : List ℕ) → Numbered (fileVerdict s)
+unfolding fileVerdict
+numbered-file s =
+    numbered-both _ _ (numbered-if _ 1 0 (omega arith))
+    (numbered-both _ _ (numbered-if _ 2 0 (omega arith))
+    (numbered-both _ _ (numbered-if _ 3 0 (omega arith)) (numbered-records (length s / recordSize) 0 [] s)))
+
+pub numbered-set : (way : Way) (s : List ℕ) → Numbered (setVerdict way s)
+unfolding setVerdict rowsVerdict
+numbered-set way s = numbered-both _ _ (numbered-file s) (numbered-if _ 7 0 (omega arith))
+
+pub numbered-trace : (t : List ℕ) → Numbered (traceVerdict t)
+unfolding traceVerdict
+numbered-trace t = numbered-if _ 8 0 (omega arith)
+
+pub numbered-workspace : (way : Way) (s : List ℕ) (room : ℕ) → Numbered (workspaceVerdict way s room)
+unfolding workspaceVerdict
+numbered-workspace way s room = numbered-if _ 9 _ (omega arith)
