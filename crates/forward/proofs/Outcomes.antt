@@ -1,0 +1,87 @@
+-- The scan's answer and what it leaves: the tests decide, and where they pass the scan has found all that the trace holds.
+use Prim.Native.Nat.{ℕ, _+_, _*_, _≤_, _<_}
+use native.Mathlib.Omega.{arith}
+use mathlib.Core.Path.{_≡_, refl, sym, _∙_, ap}
+use mathlib.Core.List.{List, []}
+use lib.ListN.{length}
+use borrow.Author.Tests.{ltb-false}
+use Rattle.rules.specs.declared.Refusal.{Refusal}
+use Rattle.rules.specs.declared.Scanned.{Scanned}
+use Rattle.rules.specs.Limits.{longestTrace, longestWord, rowCells}
+use Rattle.rules.specs.Sets.{keywords}
+use Rattle.rules.specs.Rows.{forward, rowsOf, cells}
+use Rattle.rules.specs.Hits.{over}
+use Rattle.rules.specs.Refusals.{pass, refuse, fileVerdict, setVerdict, traceVerdict, workspaceVerdict}
+use Rattle.rules.specs.Answers.{told, numberOf, placeOf}
+use Rattle.rules.specs.Promises.{Forward, onPass, kept, answerOr, withRows, forwardTold, forwardVerdict}
+use Rattle.rules.proofs.Sound.{Sound}
+use Rattle.rules.proofs.Verdicts.{orElse-pass, refuseIf-pass}
+use Rattle.rules.proofs.Sets.{set-passed}
+use Rattle.rules.proofs.Hits.{hits-few}
+use Rattle.rules.proofs.Questions.{questions-bound}
+use Rattle.rows.specs.declared.enter.Entered.{Entered}
+use Rattle.rows.specs.Entry.{enteredVerdict, Admission}
+use Rattle.rows.proofs.Laying.{over-laid}
+use Rattle.forward.specs.declared.Running.{Running}
+use Rattle.forward.specs.Running.{Scanning, Prepared, Going}
+
+-- the verdict of a job that has just entered
+pub forward-judged : (s t : List ℕ) (room : ℕ) {r : Entered} → Admission forward s (length t) room r → enteredVerdict r ≡ forwardVerdict s t room
+unfolding forwardVerdict traceVerdict
+forward-judged s t room a = a .judged
+
+-- what a set, a trace and a workspace that passed are
+pub record Admitted (s t ws : List ℕ) : Type 0 where
+  pub file : fileVerdict s ≡ pass
+  pub near : length t ≤ longestTrace
+  pub room : rowCells * length (rowsOf forward (keywords s)) ≤ length ws
+
+pub forward-admitted : (s t ws : List ℕ) → forwardVerdict s t (length ws) ≡ pass → Admitted s t ws
+unfolding forwardVerdict traceVerdict workspaceVerdict
+forward-admitted s t ws p =
+    let a = orElse-pass _ _ p in
+    let b = orElse-pass _ _ (a .1) in
+    record {
+      file = set-passed forward s (a .0) .file;
+      near = ltb-false longestTrace (length t) (refuseIf-pass _ _ (b .0));
+      room = ltb-false (length ws) (rowCells * length (rowsOf forward (keywords s))) (refuseIf-pass _ _ (b .1));
+    }
+
+-- a refusal changes nothing
+pub forward-refused : {s t ws hs : List ℕ} (r : Refusal) → refuse (numberOf r) (placeOf r) ≡ forwardVerdict s t (length ws) → Forward s t ws hs (told (Scanned.Refused r)) ws hs
+unfolding answerOr kept onPass
+forward-refused r p = record { answered = rw (← p); rows = rw (← p); listed = rw (← p) }
+
+-- a scan that passed its tests
+module _ {s t ws : List ℕ} (admitted : Admitted s t ws) (sound : Sound (keywords s)) {hs : List ℕ} {run : Running} where
+  -- before the first byte
+  pub start-going : {ws′ : List ℕ} → ws′ ≡ over (cells forward (keywords s)) ws → Scanning (keywords s) [] hs run hs → Going s [] hs ws′ (length t) run hs
+  start-going laid fresh =
+      record {
+        prepared =
+            record { passed = admitted .file; sound = sound; laid = rw laid (over-laid forward (keywords s) ws sound (admitted .room)) };
+        near = omega (arith, admitted .near);
+        scanning = fresh;
+      }
+
+  -- after the last
+  module _ {hs′ : List ℕ} (scanned : Scanning (keywords s) t hs run hs′) where
+    pub count-few : run .count ≤ longestWord * longestTrace
+    count-few = omega (arith, scanned .tally .counted, hits-few sound t, admitted .near)
+
+    pub questions-few : run .questions ≤ 2 * longestTrace
+    questions-few = omega (arith, scanned .read .asked, questions-bound (keywords s) t, admitted .near)
+
+-- and what it answers
+pub forward-found : {s t ws hs : List ℕ} {run : Running} {ws′ hs′ : List ℕ}
+    → forwardVerdict s t (length ws) ≡ pass
+    → ws′ ≡ over (cells forward (keywords s)) ws
+    → Scanning (keywords s) t hs run hs′
+    → Forward s t ws hs (told (Scanned.Found (record { count = run .count; questions = run .questions; energy = run .energy }))) ws′ hs′
+unfolding answerOr kept onPass withRows forwardTold
+forward-found p laid scanned =
+    record {
+      answered = rw (p, scanned .tally .counted, scanned .read .asked, scanned .tally .charged);
+      rows = rw p laid;
+      listed = rw p (scanned .tally .buffer);
+    }

@@ -1,0 +1,126 @@
+-- The scan's row stands for the longest suffix read that begins a keyword, and a string begins a keyword exactly where it is
+-- a row: so a step over the rows is the definition's.
+use Prim.Native.Nat.{ℕ, _+_, _*_, _-_, _≤_, _<_}
+use native.Mathlib.Numerals.{add-one}
+use native.Mathlib.Omega.{arith}
+use mathlib.Core.Path.{_≡_, refl, sym, _∙_, ap}
+use mathlib.Core.Bool.{Bool, true}
+use mathlib.Core.List.{List, [], _∷_, _++_, append-nil, append-assoc}
+use lib.ListN.{length, take, getD, length-append, length-take}
+use lib.Seq.{take-suc}
+use Rattle.rules.specs.Limits.{longestWord, longestTrace}
+use Rattle.rules.specs.Strings.{same, any, keep, countTo, suffixes, longest, longestBehind}
+use Rattle.rules.specs.Sets.{Keyword, keywords}
+use Rattle.rules.specs.Rows.{forward, starts, rowsOf, rowOf, failureCell}
+use Rattle.rules.specs.Questions.{questionsAt, questions, mostQuestions}
+use Rattle.rules.proofs.Sound.{Sound}
+use Rattle.rules.proofs.Rows.{root-row, rowed-rows, row-at, rowOf-is, starts-closed}
+use Rattle.rules.proofs.PrefixRows.{filled-rows, row-short}
+use Rattle.rules.proofs.State.{askedBy, asked-state, longest-passes, longest-state}
+use Rattle.rules.proofs.Questions.{questions-asked, questions-more, questions-bound}
+use Rattle.rows.specs.Falls.{isRow, Ready, Moved}
+use Rattle.rows.specs.declared.failures.Advanced.{Advanced}
+use Rattle.forward.specs.declared.Running.{Running}
+use Rattle.forward.specs.Running.{Read, Scanning, Prepared, Ending, Going}
+
+-- the rows of the set s, and what begins one of its keywords
+abbrev pub rowsIn : List ℕ → List (List ℕ)
+rowsIn s = rowsOf forward (keywords s)
+
+abbrev pub startsIn : List ℕ → List ℕ → Bool
+startsIn s = starts forward (keywords s)
+
+pub row-starts : {ks : List Keyword} → Sound ks → isRow (rowsOf forward ks) ≡ starts forward ks
+unfolding isRow
+row-starts {ks} sound = λ i r. filled-rows forward ks (sound .some) r i
+
+module _ {s ws : List ℕ} (prepared : Prepared s ws) (u : List ℕ) where
+  -- the state is a row
+  state-is : any (same (longest (startsIn s) u)) (rowsIn s) ≡ true
+  state-is =
+      let same-tests = filled-rows forward (keywords s) (prepared .sound .some) in
+      same-tests (longest (startsIn s) u)
+      ∙ longest-passes (startsIn s) (sym (same-tests []) ∙ root-row (rowed-rows forward (keywords s))) u
+
+  module _ (row : ℕ) (state : row ≡ rowOf (rowsIn s) (longest (startsIn s) u)) where
+    pub state-within : row < length (rowsIn s)
+    state-within = rw state (rowOf-is (rowsIn s) (longest (startsIn s) u) state-is .0)
+
+    pub state-reads : getD (rowsIn s) row [] ≡ longest (startsIn s) u
+    state-reads = rw state (rowOf-is (rowsIn s) (longest (startsIn s) u) state-is .1)
+
+    -- a step may be taken from it
+    pub state-ready : Ready (rowsIn s) longestWord row ws
+    unfolding failureCell
+    state-ready =
+        record {
+          tree = prepared .laid .tree;
+          short = omega arith;
+          falls = λ i q h.
+              prepared .laid .failures i q
+              ∙ ap (λ (p : List ℕ → Bool). rowOf (rowsIn s) (longestBehind p (getD (rowsIn s) i []))) (sym (row-starts (prepared .sound)));
+          within = state-within;
+          shallow = row-short forward (prepared .sound) _ (row-at (rowsIn s) row _ state-within refl);
+        }
+
+    -- where it leads, and what it asks
+    module _ {c : ℕ} {r : Advanced} (moved : Moved (rowsIn s) (getD (rowsIn s) row []) c r) where
+      pub moved-state : r .row ≡ rowOf (rowsIn s) (longest (startsIn s) (u ++ (c ∷ [])))
+      moved-state =
+          moved .row
+          ∙ rw (row-starts (prepared .sound), state-reads)
+          (ap (rowOf (rowsIn s)) (sym (longest-state (startsIn s) (λ r c. starts-closed forward (keywords s) r (c ∷ [])) u c)))
+
+      pub moved-asked : r .asked ≡ questionsAt (keywords s) u c
+      unfolding askedBy questionsAt
+      moved-asked =
+          moved .asked
+          ∙ rw (row-starts (prepared .sound), state-reads) (sym (asked-state (startsIn s) u c))
+
+-- a scan that has one byte to read
+module _ {s u old ws hs : List ℕ} {run : Running} (going : Going s u old ws 1 run hs) {c : ℕ} {r : Advanced}
+    (moved : Moved (rowsIn s) (getD (rowsIn s) (run .row) []) c r) where
+  more : run .questions + r .asked ≡ questions (keywords s) (u ++ (c ∷ []))
+  more =
+      omega (
+        arith,
+        going .scanning .read .asked,
+        moved-asked (going .prepared) u (run .row) (going .scanning .read .state) moved,
+        questions-more (keywords s) u c,
+      )
+
+  -- its questions are few
+  pub step-few : run .questions + r .asked ≤ 2 * longestTrace
+  step-few = omega (arith, more, questions-bound (keywords s) (u ++ (c ∷ [])), length-append u (c ∷ []), going .near)
+
+  pub step-read : Ending s u c old ws (record { row = r .row; end = run .end + 1; count = run .count; questions = run .questions + r .asked; energy = run .energy; listed = run .listed }) hs
+  step-read =
+      let t = going .scanning .tally in
+      record {
+        prepared = going .prepared;
+        near = omega (arith, going .near);
+        read =
+            record {
+              state = moved-state (going .prepared) u (run .row) (going .scanning .read .state) moved;
+              end = omega (arith, going .scanning .read .end, length-append u (c ∷ []));
+              asked = more;
+            };
+        tally = record { counted = t .counted; charged = t .charged; listed = t .listed; buffer = t .buffer };
+      }
+
+-- a scan that has the bytes t to read: after none of them, before one more, and after it
+module _ {s u old ws hs₀ : List ℕ} {run₀ : Running} (t : List ℕ) (going : Going s u old ws (length t) run₀ hs₀) where
+  pub bytes-none : Scanning (keywords s) (u ++ take 0 t) old run₀ hs₀
+  bytes-none = rw (append-nil u) (going .scanning)
+
+  module _ (i : ℕ) (q : i < length t) {run : Running} {hs : List ℕ} where
+    pub bytes-going : Scanning (keywords s) (u ++ take i t) old run hs → Going s (u ++ take i t) old ws 1 run hs
+    bytes-going scanning =
+        record {
+          prepared = going .prepared;
+          near = omega (arith, length-append u (take i t), length-take i t, going .near);
+          scanning = scanning;
+        }
+
+    pub bytes-more : Scanning (keywords s) (u ++ take i t ++ (getD t i 0 ∷ [])) old run hs → Scanning (keywords s) (u ++ take (i + 1) t) old run hs
+    bytes-more scanning = rw (add-one i, take-suc t i 0 q, ← (append-assoc u (take i t) (getD t i 0 ∷ []))) scanning

@@ -1,0 +1,114 @@
+-- What is listed and what still ends the row's string are all the hits, along the dictionary rows down to row 0.
+use Prim.Native.Nat.{ℕ}
+use native.Mathlib.Omega.{arith}
+use mathlib.Core.Path.{_≡_, refl, sym, _∙_}
+use mathlib.Core.Logic.{⊎-elim}
+use mathlib.Core.List.{List, [], _∷_, _++_}
+use lib.ListN.{length, getD, length-append}
+use denote.Ref.{now}
+use Rattle.forward.specs.Running.{Prepared, Ending}
+use Rattle.forward.proofs.States.{rowsIn}
+use Rattle.forward.proofs.Endings.{Listing, at-state, row-room, dictionary-shorter, listing-own, listing-none, listing-key, listing-hit, listing-more, listing-all}
+use Rattle.forward.proofs.list_hits.Statement.{statement}
+use Rattle.forward.proofs.list_hits.Tie as tie
+
+abbrev Inv-loop : tie.InvT-loop
+Inv-loop ws set hits₀ next₀ state at₀ hits next at =
+    (length hits ≡ length hits₀)
+    × ((u : List ℕ) (b : ℕ) (old : List ℕ) → Ending set u b old ws next₀ hits₀ → Listing set (u ++ (b ∷ [])) old at next hits)
+
+abbrev μ-loop : tie.MeasureT-loop
+μ-loop ws set hits₀ next₀ state at₀ hits next at = length (getD (rowsIn set) at [])
+
+key-requires : tie.Need-key-requires Inv-loop μ-loop
+key-requires c κs = let e = c .before .before .before .pre .3 in row-room (e .prepared) _ (at-state e)
+
+dictionary-requires : tie.Need-dictionary-requires Inv-loop μ-loop
+dictionary-requires c κs = let e = c .before .before .before .before .before .pre .3 in row-room (e .prepared) _ (at-state e)
+
+loop-holds : tie.Need-loop-holds Inv-loop μ-loop
+loop-holds c = (
+  refl,
+  λ u b old e.
+      let key = c .before .key .ensures .0 in
+      ⊎-elim (λ w. rw (w .2 ∙ w .1 .ensures .0) (listing-none e (sym key ∙ w .0 .taken)))
+      (λ w. rw (w .1) (listing-own e (λ z. w .0 .left (key ∙ z))))
+      (c .if1 .came),
+)
+
+-- what the loop's head knows, at the prefix that the caller names
+prepared : (c : tie.At-loop Inv-loop μ-loop)
+    → Prepared (now (c .before .before .before .before .before .before .args .set)) (now (c .before .before .before .before .before .before .args .ws))
+prepared c = c .before .before .before .before .before .before .pre .3 .prepared
+
+listing : (c : tie.At-loop Inv-loop μ-loop)
+    → let p = c .before .before .before .before .before .before .pre in
+    Listing (now (c .before .before .before .before .before .before .args .set)) (p .0 ++ (p .1 ∷ [])) (p .2) (c .loop .at) (c .loop .next) (c .loop .hits)
+listing c = let p = c .before .before .before .before .before .before .pre in c .loop .inv .1 (p .0) (p .1) (p .2) (p .3)
+
+key-requires-2 : tie.Need-key-requires-2 Inv-loop μ-loop
+key-requires-2 c κs = row-room (prepared (c .before)) (c .before .loop .at) (listing (c .before) .within)
+
+sub-k : tie.Need-sub-k Inv-loop μ-loop
+sub-k c =
+    let d = c .before .before in
+    rw (c .key2 .ensures .0) (listing-key (prepared d) (listing d) (c .before .loop-test .taken))
+
+hit-requires : tie.Need-hit-requires Inv-loop μ-loop
+hit-requires c κs =
+    let d = c .before .before .before in
+    let p = d .before .before .before .before .before .before .pre in (
+      listing d .done,
+      p .2,
+      rw (c .before .key2 .ensures .0)
+          (listing-hit (prepared d) (listing d) (c .before .before .loop-test .taken) (omega (arith, p .3 .near, length-append (p .0) (p .1 ∷ [])))),
+    )
+
+dictionary-requires-2 : tie.Need-dictionary-requires-2 Inv-loop μ-loop
+dictionary-requires-2 c κs =
+    let d = c .before .before .before .before .before .before in
+    row-room (prepared d) (d .loop .at) (listing d .within)
+
+loop-less : tie.Need-loop-less Inv-loop μ-loop
+loop-less c =
+    let d = c .before .before .before .before .before .before .before in
+    rw (c .dictionary2 .ensures .0)
+    (dictionary-shorter (prepared d) (d .loop .at) (listing d .within) (c .before .before .before .before .before .before .loop-test .taken))
+
+loop-again : tie.Need-loop-again Inv-loop μ-loop
+loop-again c =
+    let d = c .before .before .before .before .before .before .before in
+    let called = c .before .before .before .hit in
+    let key = c .before .before .before .before .before .key2 .ensures .0 in
+    let some = c .before .before .before .before .before .before .loop-test .taken in (
+      called .kept .1 .0 ∙ d .loop .inv .0,
+      λ u b old e.
+          let l = d .loop .inv .1 u b old e in
+          let hitting = listing-hit (e .prepared) l some (omega (arith, e .near, length-append u (b ∷ []))) in
+          rw (c .dictionary2 .ensures .0)
+          (listing-more (e .prepared) l some (rw key at (called .ensures (l .done) old (rw key hitting)))),
+    )
+
+same-length : tie.Need-same-length Inv-loop μ-loop
+same-length c = c .before .loop .inv .0
+
+returns : tie.Need-returns Inv-loop μ-loop
+returns c = λ u b old e. listing-all (e .prepared) (rw (c .loop-test .left) at (c .before .loop .inv .1 u b old e))
+
+pub list-hits-spec : {M : Type 1} → statement M
+list-hits-spec =
+    tie.close
+    (tie.spec
+    Inv-loop
+    μ-loop
+    key-requires
+    dictionary-requires
+    loop-holds
+    key-requires-2
+    sub-k
+    hit-requires
+    dictionary-requires-2
+    loop-less
+    loop-again
+    same-length
+    returns)

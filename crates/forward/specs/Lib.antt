@@ -1,0 +1,2 @@
+-- What a forward scan under way has found.
+pub mod Running
