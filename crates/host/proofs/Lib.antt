@@ -1,0 +1,3 @@
+-- The answer's bytes, and that the jobs' promises give the calls'.
+pub mod Digits
+pub mod Telling

@@ -1,0 +1,73 @@
+-- The host call's answer is the forward scan's: a workspace of 961 rows is enough for every set that passes its tests, so
+-- test 9 never speaks.
+use Prim.Native.Nat.{ℕ, _*_, _≤_, _<_}
+use native.Mathlib.Omega.{arith}
+use mathlib.Core.Path.{_≡_, refl, sym, _∙_, ap, subst}
+use mathlib.Core.Logic.{⊎-elim}
+use mathlib.Core.List.{List}
+use lib.ListN.{length}
+use borrow.Author.Tests.{lt-ltb, le-ltb}
+use Rattle.rules.specs.Limits.{answerSize, rowCells, mostRows}
+use Rattle.rules.specs.Rows.{forward}
+use Rattle.rules.specs.Hits.{over}
+use Rattle.rules.specs.Refusals.{pass, refuse, refuseIf, orElse, setVerdict, traceVerdict, workspaceVerdict, answerVerdict}
+use Rattle.rules.specs.Answers.{Told, answerBytes}
+use Rattle.rules.specs.Promises.{onPass, kept, answerOr, Forward, forwardTold, forwardVerdict, hostVerdict, hostTold, Host}
+use Rattle.rules.proofs.Verdicts.{verdict-cases, refuse-orElse, pass-orElse, orElse-right, refuseIf-true, refuseIf-false}
+use Rattle.rules.proofs.Sets.{set-passed}
+use Rattle.host.specs.Calls.{Telling, ForwardCall}
+
+-- a short buffer is refused and left as it was
+pub host-short : (s t answer : List ℕ) → length answer < answerSize → Host s t answer 17 answer
+unfolding answerVerdict onPass kept
+host-short s t answer short =
+    let no : answerVerdict (length answer) ≡ refuse 17 0 = refuseIf-true 17 0 (lt-ltb (length answer) answerSize short) in
+    record { numbered = rw no; written = rw no }
+
+-- with room for 961 rows the forward scan's tests are the host call's
+pub enough-room : (s t : List ℕ) (room : ℕ) → rowCells * mostRows ≤ room → forwardVerdict s t room ≡ hostVerdict s t
+unfolding forwardVerdict hostVerdict workspaceVerdict
+enough-room s t room enough =
+    ⊎-elim
+    (λ p.
+    let few = set-passed forward s p .rows in
+    ap (λ v. orElse (setVerdict forward s) (orElse (traceVerdict t) v))
+    (refuseIf-false 9 _ (le-ltb room _ (omega (arith, few))))
+    ∙ ap (orElse (setVerdict forward s)) (orElse-right (traceVerdict t)))
+    (λ w. refuse-orElse _ (w .2) ∙ sym (refuse-orElse (traceVerdict t) (w .2)))
+    (verdict-cases (setVerdict forward s))
+
+-- the answer b of the scan is told as a
+pub host-told : {ws hs ws′ hs′ answer answer′ : List ℕ} (s t : List ℕ) (a b : Told)
+    → answerSize ≤ length answer
+    → rowCells * mostRows ≤ length ws
+    → Forward s t ws hs b ws′ hs′
+    → a ≡ b
+    → answer′ ≡ over (answerBytes a) answer
+    → Host s t answer (a .number) answer′
+unfolding answerVerdict onPass kept hostTold
+host-told {ws = ws} {answer = answer} s t a b long room promise same written =
+    let fine : answerVerdict (length answer) ≡ pass = refuseIf-false 17 0 (le-ltb (length answer) answerSize long) in
+    let told : a ≡ answerOr (forwardTold s t) (hostVerdict s t) =
+    same ∙ promise .answered ∙ ap (answerOr (forwardTold s t)) (enough-room s t (length ws) room) in
+    record {
+      numbered = rw fine (ap (λ (x : Told). x .number) told);
+      written = rw fine (written ∙ ap (λ (x : Told). over (answerBytes x) answer) told);
+    }
+
+-- the bench group's forward scan
+pub forward-short : (s t ws hs answer : List ℕ) → length answer < answerSize → ForwardCall s t ws hs answer 17 ws hs answer
+forward-short s t ws hs answer short =
+    record { short = λ h. (refl, refl, refl, refl); called = λ h. absurd (omega arith) }
+
+pub forward-called : {ws hs ws′ hs′ answer answer′ : List ℕ} (s t : List ℕ) (a b : Told)
+    → answerSize ≤ length answer
+    → Forward s t ws hs b ws′ hs′
+    → a ≡ b
+    → answer′ ≡ over (answerBytes a) answer
+    → ForwardCall s t ws hs answer (a .number) ws′ hs′ answer′
+forward-called {ws = ws} {hs} {ws′} {hs′} s t a b long promise same written =
+    record {
+      short = λ h. absurd (omega arith);
+      called = λ h. (a, subst (λ (x : Told). Forward s t ws hs x ws′ hs′) (sym same) promise, record { numbered = refl; written = written });
+    }

@@ -1,0 +1,63 @@
+/* A small host: reads a keyword set and a trace and prints what the forward scan found.
+ *
+ *     host SET.bin TRACE.bin
+ *
+ * Exit status 0, 1 for a refusal, 2 where a file cannot be read. */
+#include "bezowik.h"
+
+#include <stdio.h>
+#include <stdlib.h>
+
+/* The bytes of a file in fresh memory, and how many there are; null where it cannot be read. */
+static uint8_t *load(const char *path, size_t *bytes)
+{
+    FILE *file = fopen(path, "rb");
+    uint8_t *data = NULL;
+    long size;
+
+    *bytes = 0;
+    if (!file)
+        return NULL;
+    if (fseek(file, 0, SEEK_END) == 0 && (size = ftell(file)) >= 0 && fseek(file, 0, SEEK_SET) == 0) {
+        data = malloc((size_t)size + 1);
+        if (data)
+            *bytes = fread(data, 1, (size_t)size, file);
+    }
+    fclose(file);
+    return data;
+}
+
+int main(int argc, char **argv)
+{
+    static uint16_t workspace[BEZOWIK_WORKSPACE];
+    static uint32_t hits[2 * 4096];
+    uint8_t answer[BEZOWIK_ANSWER];
+    uint8_t *set, *trace;
+    size_t set_bytes, trace_bytes, shown, i;
+
+    if (argc != 3) {
+        fprintf(stderr, "usage: host SET.bin TRACE.bin\n");
+        return 2;
+    }
+    set = load(argv[1], &set_bytes);
+    trace = load(argv[2], &trace_bytes);
+    if (!set || !trace) {
+        fprintf(stderr, "host: %s cannot be read\n", set ? argv[2] : argv[1]);
+        free(set);
+        free(trace);
+        return 2;
+    }
+    if (bezowik_forward(set, set_bytes, trace, trace_bytes, workspace, BEZOWIK_WORKSPACE, hits, 2 * 4096, answer, sizeof answer)
+        != BEZOWIK_DONE) {
+        printf("refusal %u %u\n", (unsigned)bezowik_number(answer), (unsigned)bezowik_place(answer));
+    } else {
+        printf("count %lu energy %llu questions %lu\n", (unsigned long)bezowik_count(answer),
+               (unsigned long long)bezowik_energy(answer), (unsigned long)bezowik_questions(answer));
+        shown = bezowik_count(answer) < 4096 ? bezowik_count(answer) : 4096;
+        for (i = 0; i < shown; i++)
+            printf("%lu %lu\n", (unsigned long)hits[2 * i], (unsigned long)hits[2 * i + 1]);
+    }
+    free(set);
+    free(trace);
+    return bezowik_number(answer) == BEZOWIK_DONE ? 0 : 1;
+}
