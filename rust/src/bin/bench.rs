@@ -1,0 +1,5 @@
+//! The benchmark without peers.
+
+fn main() {
+    bezowik::measure::forward_table(&[]);
+}

@@ -1,0 +1,126 @@
+//! The benchmark: how long a scan takes, beside the slow count and whatever peers a caller brings, in one run on one input.
+
+use crate::random::Random;
+use crate::{slow, WORKSPACE};
+use std::hint::black_box;
+use std::time::Instant;
+
+/// A peer, made ready for a set outside the measured time: it answers the count and the energy of a trace.
+pub type Scan = Box<dyn Fn(&[u8]) -> (u64, u64)>;
+
+/// A peer's name, and how it is made ready for keywords and their energies.
+pub struct Peer {
+    pub name: &'static str,
+    pub ready: fn(&[Vec<u8>], &[u64]) -> Scan,
+}
+
+/// One kind of trace.
+struct Kind {
+    name: &'static str,
+    trace: fn(&mut Random, &[Vec<u8>], usize) -> Vec<u8>,
+}
+
+const KINDS: [Kind; 3] = [
+    Kind { name: "many hits", trace: |random, words, n| repeated(n, || words[random.below(words.len())].clone()) },
+    Kind { name: "few hits", trace: |random, words, n| repeated(n, || if random.once_in(40) { words[random.below(words.len())].clone() } else { random.bytes(8, 60) }) },
+    Kind { name: "no hit", trace: |random, _, n| (0..n).map(|_| 200 + random.below(50) as u8).collect() },
+];
+
+fn repeated(n: usize, mut piece: impl FnMut() -> Vec<u8>) -> Vec<u8> {
+    let mut trace = Vec::with_capacity(n + 16);
+    while trace.len() < n {
+        trace.extend(piece());
+    }
+    trace.truncate(n);
+    trace
+}
+
+/// Sixty-four keywords of `shortest` to 15 bytes, of sixty opcodes, no two the same.
+pub fn words(random: &mut Random, shortest: usize) -> Vec<Vec<u8>> {
+    let mut words: Vec<Vec<u8>> = Vec::new();
+    while words.len() < 64 {
+        let n = shortest + random.below(16 - shortest);
+        let word = random.bytes(n, 60);
+        if !words.contains(&word) {
+            words.push(word);
+        }
+    }
+    words
+}
+
+/// The set file of some keywords, with the energy of each.
+pub fn set_file(words: &[Vec<u8>]) -> (Vec<u8>, Vec<u64>) {
+    let energies: Vec<u64> = (0..words.len() as u64).map(|i| 10 + 7 * i).collect();
+    (words.iter().zip(&energies).flat_map(|(w, &e)| slow::record(w, e as u16)).collect(), energies)
+}
+
+/// Nanoseconds of one call: the least of several runs, each of enough calls to be seen.
+pub fn nanoseconds(mut call: impl FnMut()) -> f64 {
+    let mut calls = 1u32;
+    let mut least = f64::INFINITY;
+    let mut runs = 0;
+    while runs < 5 {
+        let start = Instant::now();
+        for _ in 0..calls {
+            call();
+        }
+        let took = start.elapsed().as_secs_f64() * 1e9;
+        if took < 2e7 && calls < 1 << 20 {
+            calls *= 2;
+            continue;
+        }
+        least = least.min(took / f64::from(calls));
+        runs += 1;
+    }
+    least
+}
+
+/// Prints the table: the forward scan's nanoseconds a byte, and how many times that each other one takes.
+pub fn forward_table(peers: &[Peer]) {
+    let mut random = Random::new(64);
+    let words = words(&mut random, 4);
+    let (set, energies) = set_file(&words);
+    let mut workspace = vec![0u16; WORKSPACE];
+    let mut hits = vec![0u32; 1 << 21];
+    print!("{:10} {:>9} {:>9} {:>9} {:>9} {:>9} {:>9}", "trace", "bytes", "hits", "ns/byte", "forward", "host", "slow");
+    for peer in peers {
+        print!(" {:>12}", peer.name);
+    }
+    println!();
+    for kind in &KINDS {
+        for n in [1 << 10, 1 << 16, 1 << 20] {
+            let trace = (kind.trace)(&mut random, &words, n);
+            let found = crate::forward(&set, &trace, &mut workspace, &mut hits);
+            let own = nanoseconds(|| {
+                black_box(crate::forward(black_box(&set), black_box(&trace), &mut workspace, &mut hits));
+            });
+            let host = nanoseconds(|| {
+                black_box(crate::cost(black_box(&set), black_box(&trace)));
+            });
+            let keywords = slow::keywords(&set, slow::Way::Forward).expect("the set passes");
+            let slow = nanoseconds(|| {
+                black_box(slow::hits(black_box(&keywords), black_box(&trace)));
+            });
+            print!("{:10} {n:9} {:9} {:9.2} {:9.2} {:9.2} {:9.2}", kind.name, found.count, own / n as f64, 1.0, host / own, slow / own);
+            for peer in peers {
+                let scan = (peer.ready)(&words, &energies);
+                assert_eq!(scan(&trace), (u64::from(found.count), found.energy), "{} finds something else", peer.name);
+                let took = nanoseconds(|| {
+                    black_box(scan(black_box(&trace)));
+                });
+                print!(" {:12.2}", took / own);
+            }
+            println!();
+        }
+    }
+    for peer in peers {
+        let took = nanoseconds(|| {
+            black_box((peer.ready)(black_box(&words), black_box(&energies)));
+        });
+        println!("{} is made ready in {:.0} us, which is not in the table", peer.name, took / 1e3);
+    }
+    let empty = nanoseconds(|| {
+        black_box(crate::forward(black_box(&set), &[], &mut workspace, &mut hits));
+    });
+    println!("a forward scan of no bytes, which tests the set and lays its rows, takes {:.0} us: it is in the table", empty / 1e3);
+}

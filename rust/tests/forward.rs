@@ -1,0 +1,141 @@
+//! The forward scan and the host call, compared with the slow count on many inputs: every buffer and every refusal that they have.
+
+mod common;
+
+use bezowik::random::Random;
+use bezowik::slow::{self, record};
+use bezowik::{Answer, WORKSPACE};
+use common::{bench_set, damaged_set, random_set, random_trace, BENCH_TRACE};
+
+/// Both scans of one input, with buffers that hold something beforehand: all that they leave must be the same.
+fn same(set: &[u8], trace: &[u8], workspace: usize, hits: usize, answer: usize) {
+    let told = || format!("set {set:?}\ntrace {trace:?}\nworkspace {workspace} hits {hits} answer {answer}");
+    let before = |n: usize| (0..n).map(|i| 7 + 3 * i as u32).collect::<Vec<u32>>();
+    let narrow = |n: usize| before(n).iter().map(|&x| x as u16).collect::<Vec<u16>>();
+    let bytes = |n: usize| before(n).iter().map(|&x| x as u8).collect::<Vec<u8>>();
+
+    let (mut ws, mut hs, mut an) = (narrow(workspace), before(hits), bytes(answer));
+    let result = bezowik::forward_into(set, trace, &mut ws, &mut hs, &mut an);
+    let (mut ws2, mut hs2, mut an2) = (narrow(workspace), before(hits), bytes(answer));
+    let expected = if answer < 20 {
+        17
+    } else {
+        let found = slow::forward(set, trace, &mut ws2, &mut hs2);
+        slow::over(&mut an2, &found.to_bytes());
+        found.number
+    };
+    assert_eq!(result, expected, "result\n{}", told());
+    assert_eq!(an, an2, "answer\n{}", told());
+    assert_eq!(ws, ws2, "workspace\n{}", told());
+    assert_eq!(hs, hs2, "hits\n{}", told());
+
+    let (mut an, mut an2) = (bytes(answer), bytes(answer));
+    assert_eq!(bezowik::cost_into(set, trace, &mut an), slow::cost_into(set, trace, &mut an2), "host result\n{}", told());
+    assert_eq!(an, an2, "host answer\n{}", told());
+}
+
+#[test]
+fn bench_cases() {
+    let mut ws = vec![0; WORKSPACE];
+    let mut hs = [0; 12];
+    let w = bench_set();
+    let found = bezowik::forward(&w, BENCH_TRACE, &mut ws, &mut hs);
+    assert_eq!(found, Answer { number: 0, place: 0, count: 5, questions: 9, energy: 280 });
+    assert_eq!(hs, [3, 1, 3, 0, 5, 2, 7, 1, 7, 0, 0, 0]);
+    assert_eq!(ws[6..48].chunks(6).map(|r| r[3]).collect::<Vec<_>>(), [0, 0, 0, 1, 2, 1, 3]);
+    assert_eq!(bezowik::cost(&w, b"LMLM"), Answer { count: 2, questions: 5, energy: 80, ..Answer::default() });
+    let aa = record(b"AA", 1);
+    assert_eq!(bezowik::cost(&aa, b"AAAA"), Answer { count: 3, questions: 6, energy: 3, ..Answer::default() });
+    assert_eq!(bezowik::cost(&aa, b"AB"), Answer { count: 0, questions: 3, energy: 0, ..Answer::default() });
+    assert_eq!(bezowik::cost(&w, b""), Answer::default());
+}
+
+#[test]
+fn keyword_behind_the_failure_row() {
+    // the failure row of ALM is LM, no keyword, and the M behind it is a hit all the same
+    let set = [record(b"M", 1), record(b"LMA", 2), record(b"ALM", 4)].concat();
+    assert_eq!(bezowik::cost(&set, b"ALM").energy, 5);
+}
+
+#[test]
+fn limits() {
+    let fifteen = record(b"ABCDEFGHIJKLMNO", 3);
+    assert_eq!(bezowik::cost(&fifteen, b"ABCDEFGHIJKLMNO").count, 1);
+    let mut sixteen = fifteen.clone();
+    sixteen[0] = 16;
+    assert_eq!(bezowik::cost(&sixteen, b""), Answer::refused(4, 0));
+    let many: Vec<u8> = (0..64).flat_map(|i| record(&[i, 1], 1)).collect();
+    assert_eq!(bezowik::cost(&many, b"").number, 0);
+    let more: Vec<u8> = (0..65).flat_map(|i| record(&[i, 1], 1)).collect();
+    assert_eq!(bezowik::cost(&more, b""), Answer::refused(3, 0));
+    let longest = vec![65; 1_048_576];
+    assert_eq!(bezowik::cost(&record(b"A", 65_535), &longest), Answer { count: 1_048_576, questions: 2 * 1_048_576 - 1, energy: 65_535 * 1_048_576, ..Answer::default() });
+    assert_eq!(bezowik::cost(&record(b"A", 1), &vec![65; 1_048_577]), Answer::refused(8, 0));
+    // fifteen keywords at every end: the most hits
+    let nested: Vec<u8> = (1..16).flat_map(|n| record(&vec![65; n], 65_535)).collect();
+    let all = bezowik::cost(&nested, &longest);
+    assert_eq!(all.count as usize, 15 * 1_048_576 - 105);
+    assert_eq!(all.energy, 65_535 * u64::from(all.count));
+    assert_eq!(all.questions, 2 * 1_048_576 - 15);
+}
+
+#[test]
+fn odd_and_short_hit_buffers() {
+    for hits in 0..14 {
+        same(&bench_set(), BENCH_TRACE, WORKSPACE, hits, 20);
+    }
+}
+
+#[test]
+fn workspaces_around_the_size_needed() {
+    for workspace in [0, 1, 6, 47, 48, 49, 60] {
+        same(&bench_set(), BENCH_TRACE, workspace, 12, 20);
+    }
+}
+
+#[test]
+fn answer_buffers_of_every_length() {
+    for answer in 0..41 {
+        same(&bench_set(), BENCH_TRACE, WORKSPACE, 4, answer);
+        same(&[], BENCH_TRACE, WORKSPACE, 4, answer);
+    }
+}
+
+#[test]
+fn random_inputs() {
+    for seed in 0..400 {
+        println!("seed {seed}");
+        let mut random = Random::new(seed);
+        let set = random_set(&mut random);
+        for _ in 0..5 {
+            let trace = random_trace(&mut random, &set, 300);
+            let workspace = if random.once_in(4) { random.below(WORKSPACE) } else { WORKSPACE };
+            same(&set, &trace, workspace, random.below(40), 20 + random.below(3));
+        }
+    }
+}
+
+#[test]
+fn damaged_sets() {
+    for seed in 1000..1400 {
+        println!("seed {seed}");
+        let mut random = Random::new(seed);
+        let set = random_set(&mut random);
+        for _ in 0..5 {
+            let damaged = damaged_set(&mut random, &set);
+            let trace = random_trace(&mut random, &set, 40);
+            same(&damaged, &trace, WORKSPACE, random.below(10), 18 + random.below(5));
+        }
+    }
+}
+
+#[test]
+fn long_traces() {
+    for seed in 2000..2004 {
+        println!("seed {seed}");
+        let mut random = Random::new(seed);
+        let set = random_set(&mut random);
+        let trace = random_trace(&mut random, &set, 60_000);
+        same(&set, &trace, WORKSPACE, 20_001, 20);
+    }
+}
