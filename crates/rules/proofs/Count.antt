@@ -89,7 +89,7 @@ begins-less p s q =
     fails (begins p s)
     (λ h. let (r, e) = begins-true p s h in omega (arith, ap length e, length-append p r))
 
-met : (ws : List (List ℕ)) (u : List ℕ) (c : ℕ)
+pub met : (ws : List (List ℕ)) (u : List ℕ) (c : ℕ)
     → any (same (u ++ (c ∷ []))) (meet (meetWords ([] ∷ []) ws) (prefixes u)) ≡ any (begins (u ++ (c ∷ []))) ws
 met ws u c =
     let w = u ++ (c ∷ []) in

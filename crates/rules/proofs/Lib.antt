@@ -1,6 +1,7 @@
 -- The laws of the definitions, in the order in which they lean on each other.
 pub mod Lists
 pub mod Strings
+pub mod Parts
 pub mod Sound
 pub mod Verdicts
 pub mod Sets
@@ -10,6 +11,7 @@ pub mod Rows
 pub mod PrefixRows
 pub mod Count
 pub mod Common
+pub mod NewRows
 pub mod Children
 pub mod Listed
 pub mod State
@@ -21,11 +23,16 @@ pub mod Hits
 pub mod Buffers
 pub mod Pairs
 pub mod Numbers
+pub mod KeyNumbers
 pub mod Least
+pub mod Searches
+pub mod Lowest
 pub mod Skips
+pub mod Distances
 pub mod Windows
 pub mod Tables
 pub mod Runs
+pub mod Ahead
 pub mod Answers
 pub mod Promises
 pub mod Cases

@@ -17,6 +17,7 @@ use Rattle.rules.specs.Skips.{inner, edge, far, suffixRows, count, named
 use Rattle.rules.specs.Runs.{innerIn, edgeIn, farIn}
 use Rattle.rules.specs.Refusals.{Verdict, pass, refuse, refuseIf, orElse, faulty, rowVerdicts, farVerdicts, tableVerdict}
 use Rattle.rules.proofs.Strings.{or-fails-left, or-fails-right, same-true, eq-same}
+use Rattle.rules.proofs.Parts.{getD-map-within}
 use Rattle.rules.proofs.Sound.{Sound}
 use Rattle.rules.proofs.Verdicts.{orElse-exactly, test-exactly}
 use Rattle.rules.proofs.Rows.{row-at}
@@ -227,21 +228,16 @@ module _ {A : Type 0} (f : A → List ℕ) (n : ℕ) (d : A) where
       rw (at, drop-append-add (f v) (flatMap f vs) (n * i)) (parts-at vs (λ j p. h (suc j) (omega arith)) i (omega arith))
 
 -- n, n + 1, ..
-count-length : (n k : ℕ) → length (count n k) ≡ k
+pub count-length : (n k : ℕ) → length (count n k) ≡ k
 unfolding count
 count-length n zero = refl
 count-length n (suc k) = ap suc (count-length (suc n) k)
 
-count-at : (n k i d : ℕ) → i < k → getD (count n k) i d ≡ n + i
+pub count-at : (n k i d : ℕ) → i < k → getD (count n k) i d ≡ n + i
 unfolding count
 count-at n zero i d h = absurd (omega arith)
 count-at n (suc k) zero d h = omega arith
 count-at n (suc k) (suc i) d h = omega (arith, count-at (suc n) k i d (omega arith))
-
-map-at : (f : ℕ → ℕ) (l : List ℕ) (i d : ℕ) → i < length l → getD (map f l) i d ≡ f (getD l i d)
-map-at f [] i d h = absurd (omega arith)
-map-at f (x ∷ l) zero d h = refl
-map-at f (x ∷ l) (suc i) d h = map-at f l i d (omega arith)
 
 -- a suffix's record
 pub named-length : (v : List ℕ) → length v ≤ longestWord → length (named v) ≡ 16
@@ -322,7 +318,7 @@ module _ (ks : List Keyword) where
       sym (getD-drop (depths * a) (byteFile ks) z 0)
       ∙ ap (λ (l : List ℕ). getD l z 0) (parts-at numbers depths 0 (count 0 opcodes) (λ j h. far-length (getD (count 0 opcodes) j 0)) a inside)
       ∙ List·getD-append (numbers b) (flatMap numbers (drop (suc a) (count 0 opcodes))) 0 z (omega (arith, far-length b))
-      ∙ map-at (far ks b) (count 0 depths) z 0 (omega (arith, count-length 0 depths))
+      ∙ getD-map-within (far ks b) (count 0 depths) z 0 0 (omega (arith, count-length 0 depths))
       ∙ rw (byte, depth)
 
 -- What making writes, the check accepts.

@@ -1,0 +1,2 @@
+-- Laws of a tally, which the proofs of the functions and of their callers lean on.
+pub mod Tallying

@@ -1,0 +1,2 @@
+-- What a scan has counted and listed.
+pub mod Tallies

@@ -1,0 +1,115 @@
+-- Records laid into a buffer one behind another are the row file laid over its front: each is a run of stores behind those
+-- before it.
+use Prim.Native.Nat.{ℕ, _+_, _*_, _≤_, _<_}
+use native.Mathlib.Omega.{arith}
+use native.Mathlib.Numerals.{add-one}
+use mathlib.Core.Path.{_≡_, refl, sym, _∙_, ap}
+use mathlib.Core.List.{List, [], _∷_, _++_, flatMap, append-assoc, append-nil}
+use lib.ListN.{length, take, getD, set, length-append}
+use lib.Seq.{paste, paste-zero, paste-suc, length-paste, take-length, take-suc, take-all, sets-eq}
+use Rattle.rules.specs.Limits.{rowRecord}
+use Rattle.rules.specs.Sets.{Keyword, keywords}
+use Rattle.rules.specs.Rows.{backward, rowsOf}
+use Rattle.rules.specs.Hits.{over}
+use Rattle.rules.specs.Skips.{named, inner, edge, suffixRows, rowFile}
+use Rattle.rules.proofs.Buffers.{over-sets, over-length}
+use Rattle.rules.proofs.Tables.{suffixRows-length, named-length}
+use Rattle.skips.specs.declared.suffixes.Place.{Place}
+use Rattle.skips.specs.Suffixes.{Suffix, At, suffixAt, recordFor, putAt}
+use Rattle.skips.proofs.Matches.{suffix-length, suffix-short}
+
+-- the first k numbers of new stand in the buffer from a place on
+pub record Pasted (old : List ℕ) (place : ℕ) (new buffer : List ℕ) (k : ℕ) : Type 0 where
+  pub room : place + length new ≤ length old
+  pub low : k ≤ length new
+  pub known : buffer ≡ paste old place new k
+
+pub pasted-none : (old : List ℕ) (place : ℕ) (new : List ℕ) → place + length new ≤ length old → Pasted old place new old 0
+pasted-none old place new h = record { room = h; low = omega arith; known = paste-zero old place new }
+
+module _ {old : List ℕ} {place : ℕ} {new buffer : List ℕ} {k : ℕ} (so : Pasted old place new buffer k) where
+  pub pasted-length : length buffer ≡ length old
+  pasted-length =
+      let low : k ≤ length new = so .low in
+      ap length (so .known) ∙ length-paste old place new k (omega (arith, so .room)) (so .low)
+
+  pub pasted-more : k < length new → Pasted old place new (set buffer (place + k) (getD new k 0)) (k + 1)
+  pasted-more h =
+      record {
+        room = so .room;
+        low = omega arith;
+        known = rw (so .known, add-one k) (paste-suc old place new k 0 (omega (arith, so .room)) h);
+      }
+
+  pub pasted-all : length new ≤ k → buffer ≡ putAt old place new
+  unfolding putAt
+  pasted-all h =
+      let all : k ≡ length new = omega (arith, so .low) in
+      so .known ∙ rw (all, take-length new)
+
+-- a record behind the numbers that lie over the front already
+over-put : (new more old : List ℕ) → length new + length more ≤ length old → putAt (over new old) (length new) more ≡ over (new ++ more) old
+unfolding putAt
+over-put new more old h =
+    let size : length (over new old) ≡ length old = over-length new old (omega arith) in
+    sym (over-sets new more old h ∙ sets-eq more (over new old) (length new) (omega arith))
+
+flatMap-snoc {ℓ κ} : {A : Type ℓ} {B : Type κ} (f : A → List B) (l : List A) (x : A) → flatMap f (l ++ (x ∷ [])) ≡ flatMap f l ++ f x
+unfolding flatMap
+flatMap-snoc f [] x = append-nil (f x)
+flatMap-snoc f (a ∷ l) x = rw (flatMap-snoc f l x) (sym (append-assoc (f a) (flatMap f l) (f x)))
+
+-- the record of a suffix fills a row's part of the file
+record-size : {s : List ℕ} {i z : ℕ} (ks : List Keyword) → Suffix s i z → length (recordFor ks (suffixAt s i z)) ≡ rowRecord
+unfolding recordFor
+record-size {s} {i} {z} ks ok =
+    let v : List ℕ = suffixAt s i z in
+    let short : length v ≤ 15 = omega (arith, suffix-length ok, suffix-short ok) in
+    omega (arith, length-append (named v) (inner ks v ∷ edge ks v ∷ []), named-length v short)
+
+-- the first n records of the row file
+unfoldable pub records : List ℕ → ℕ → List ℕ
+records s n = flatMap (recordFor (keywords s)) (take n (suffixRows (keywords s)))
+
+-- they lie over the front of the buffer, which has room for all
+pub record Laid (s old buffer : List ℕ) (n : ℕ) : Type 0 where
+  pub room : rowRecord * length (rowsOf backward (keywords s)) ≤ length old
+  pub sized : length (records s n) ≡ rowRecord * n
+  pub known : buffer ≡ over (records s n) old
+
+pub laid-none : (s old : List ℕ) → rowRecord * length (rowsOf backward (keywords s)) ≤ length old → Laid s old old 0
+unfolding records flatMap over
+laid-none s old h = record { room = h; sized = omega arith; known = refl }
+
+module _ {s old buffer : List ℕ} {n : ℕ} (so : Laid s old buffer n) where
+  pub laid-length : n ≤ length (rowsOf backward (keywords s)) → length buffer ≡ length old
+  laid-length h = ap length (so .known) ∙ over-length (records s n) old (omega (arith, so .sized, so .room))
+
+  module _ {at : Place} (here : At s n at) where
+    abbrev new : List ℕ
+    new = recordFor (keywords s) (suffixAt s (at .keyword) (at .depth))
+
+    -- the next record is this suffix's
+    records-more : records s (n + 1) ≡ records s n ++ new
+    unfolding records
+    records-more =
+        let vs : List (List ℕ) = suffixRows (keywords s) in
+        let inside : n < length vs = omega (arith, here .within, suffixRows-length (keywords s)) in
+        rw (add-one n, take-suc vs n [] inside, flatMap-snoc (recordFor (keywords s)) (take n vs) (getD vs n []), here .names)
+
+    pub laid-more : Laid s old (putAt buffer (rowRecord * n) (recordFor (keywords s) (suffixAt s (at .keyword) (at .depth)))) (n + 1)
+    laid-more =
+        let size : length new ≡ rowRecord = record-size (keywords s) (here .reached .suffix) in
+        let fits : length (records s n) + length new ≤ length old = omega (arith, so .sized, so .room, here .within) in
+        record {
+          room = so .room;
+          sized = omega (arith, ap length records-more, length-append (records s n) new, so .sized);
+          known = rw (records-more, ← so .sized, so .known) (over-put (records s n) new old fits);
+        }
+
+  pub laid-all : n ≡ length (rowsOf backward (keywords s)) → buffer ≡ over (rowFile (keywords s)) old
+  unfolding records rowFile recordFor
+  laid-all e =
+      let all : take n (suffixRows (keywords s)) ≡ suffixRows (keywords s) =
+      take-all n (suffixRows (keywords s)) (omega (arith, suffixRows-length (keywords s))) in
+      so .known ∙ ap (λ (l : List (List ℕ)). over (flatMap (recordFor (keywords s)) l) old) all

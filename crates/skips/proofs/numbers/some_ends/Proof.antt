@@ -1,0 +1,65 @@
+-- No keyword passed ends the suffix and n further bytes, so one that does decides, and none does where all were passed.
+use Prim.Native.Nat.{_-_, _≤_}
+use native.Mathlib.Omega.{arith}
+use mathlib.Core.Path.{_≡_, sym, _∙_}
+use mathlib.Core.Bool.{false}
+use denote.Ref.{now}
+use Rattle.rules.specs.Strings.{any}
+use Rattle.rules.specs.Sets.{Keyword, keywordsFrom}
+use Rattle.rules.specs.Skips.{endsWithin}
+use Rattle.rules.proofs.Sets.{length-keywords}
+use Rattle.rules.proofs.Searches.{some-none, some-more, some-once, some-all}
+use Rattle.skips.specs.Suffixes.{suffixAt, someEnds}
+use Rattle.skips.proofs.numbers.some_ends.Statement.{statement}
+use Rattle.skips.proofs.numbers.some_ends.Tie as tie
+
+abbrev Inv-loop : tie.InvT-loop
+Inv-loop set i z n count k₀ k =
+    (k ≤ count) × (any (λ (l : Keyword). endsWithin (suffixAt set i z) n (l .word)) (keywordsFrom 0 k set) ≡ false)
+
+abbrev μ-loop : tie.MeasureT-loop
+μ-loop set i z n count k₀ k = count - k
+
+loop-holds : tie.Need-loop-holds Inv-loop μ-loop
+loop-holds c = (omega arith, some-none _ _)
+
+ends-within-requires : tie.Need-ends-within-requires Inv-loop μ-loop
+ends-within-requires c κs =
+    let d = c .before .before .before in
+    let known = d .pre in
+    (known, record { passed = known .listed .passed; within = omega (arith, length-keywords (now (d .args .set))) })
+
+returns : tie.Need-returns Inv-loop μ-loop
+unfolding someEnds
+returns c =
+    sym (some-once _ _ _ (c .before .before .loop-test .taken) (sym (c .before .ends-within .ensures) ∙ c .if1 .taken))
+
+add-k : tie.Need-add-k Inv-loop μ-loop
+add-k c = omega arith
+
+loop-less : tie.Need-loop-less Inv-loop μ-loop
+loop-less c = omega arith
+
+loop-again : tie.Need-loop-again Inv-loop μ-loop
+loop-again c = (
+  omega arith,
+  some-more _ _ _ (c .before .before .before .loop .inv .1) (sym (c .before .ends-within .ensures) ∙ c .if1 .left),
+)
+
+returns-2 : tie.Need-returns-2 Inv-loop μ-loop
+unfolding someEnds
+returns-2 c = sym (some-all _ _ _ (omega arith) (c .before .loop .inv .1))
+
+pub some-ends-spec : {M : Type 1} → statement M
+some-ends-spec =
+    tie.close
+    (tie.spec
+    Inv-loop
+    μ-loop
+    loop-holds
+    ends-within-requires
+    returns
+    add-k
+    loop-less
+    loop-again
+    returns-2)

@@ -1,0 +1,126 @@
+-- The record holds the suffix's length and its first k bytes, so at the end the suffix, and then its two numbers.
+use Prim.Native.Nat.{_-_}
+use native.Mathlib.Omega.{arith}
+use denote.Ref.{now}
+use Rattle.skips.specs.Suffixes.{suffixAt, recordFor}
+use Rattle.skips.proofs.Matches.{Measured, measured, listed-whole, suffix-length, suffix-short}
+use Rattle.skips.proofs.Spelling.{Spelled, spelled-none, spelled-more, spelled-all, suffix-at}
+use Rattle.skips.proofs.suffixes.record_of.Statement.{statement}
+use Rattle.skips.proofs.suffixes.record_of.Tie as tie
+
+abbrev Inv-loop : tie.InvT-loop
+Inv-loop set m i z from numbers₀ k₀ numbers k = Spelled (suffixAt set i z) numbers k
+
+abbrev μ-loop : tie.MeasureT-loop
+μ-loop set m i z from numbers₀ k₀ numbers k = z - k
+
+-- the length that was read is the keyword's
+long : (c : tie.After-length-of Inv-loop μ-loop) → Measured (now (c .before .before .args .set)) (c .before .before .args .at .keyword) (c .before .before .args .at .keyword) (c .length-of .result) (c .length-of .result)
+long c =
+    let listed = c .before .before .pre .0 .listed in
+    measured listed listed (c .length-of .ensures .0) (c .length-of .ensures .0)
+
+mul-from : tie.Need-mul-from Inv-loop μ-loop
+mul-from c = omega (arith, listed-whole (c .before .pre .0 .listed))
+
+add-from : tie.Need-add-from Inv-loop μ-loop
+add-from c = omega (arith, listed-whole (c .before .pre .0 .listed))
+
+length-of-requires : tie.Need-length-of-requires Inv-loop μ-loop
+length-of-requires c κs = listed-whole (c .before .pre .0 .listed)
+
+add-from-2 : tie.Need-add-from-2 Inv-loop μ-loop
+add-from-2 c = omega (arith, long c)
+
+sub-from : tie.Need-sub-from Inv-loop μ-loop
+sub-from c = omega (arith, long c)
+
+cast-numbers : tie.Need-cast-numbers Inv-loop μ-loop
+cast-numbers c = omega (arith, suffix-short (c .before .before .pre .0))
+
+array-write-numbers : tie.Need-array-write-numbers Inv-loop μ-loop
+array-write-numbers c = omega arith
+
+loop-holds : tie.Need-loop-holds Inv-loop μ-loop
+loop-holds c =
+    let ok = c .before .before .pre .0 in
+    spelled-none _ _ (suffix-length ok) (omega (arith, suffix-length ok, suffix-short ok))
+
+add-numbers : tie.Need-add-numbers Inv-loop μ-loop
+add-numbers c = omega (arith, long (c .before .before))
+
+shared-slice-read-numbers : tie.Need-shared-slice-read-numbers Inv-loop μ-loop
+shared-slice-read-numbers c = omega (arith, long (c .before .before .before))
+
+add-numbers-2 : tie.Need-add-numbers-2 Inv-loop μ-loop
+add-numbers-2 c = omega (arith, suffix-short (c .before .before .before .before .before .pre .0))
+
+array-write-numbers-2 : tie.Need-array-write-numbers-2 Inv-loop μ-loop
+array-write-numbers-2 c = omega (arith, suffix-short (c .before .before .before .before .before .pre .0))
+
+add-k : tie.Need-add-k Inv-loop μ-loop
+add-k c = omega (arith, suffix-short (c .before .before .before .before .before .pre .0))
+
+loop-less : tie.Need-loop-less Inv-loop μ-loop
+loop-less c = omega arith
+
+loop-again : tie.Need-loop-again Inv-loop μ-loop
+loop-again c =
+    let d = c .before .before in
+    let ok = d .before .before .before .pre .0 in
+    let byte = suffix-at ok (long (d .before) .one) (d .loop .k) (c .before .loop-test .taken) in
+    spelled-more (d .loop .inv) _ byte (omega (arith, suffix-length ok))
+
+inner-requires : tie.Need-inner-requires Inv-loop μ-loop
+inner-requires c κs = c .before .before .before .before .pre
+
+cast-numbers-2 : tie.Need-cast-numbers-2 Inv-loop μ-loop
+cast-numbers-2 c = omega arith
+
+array-write-numbers-3 : tie.Need-array-write-numbers-3 Inv-loop μ-loop
+array-write-numbers-3 c = omega arith
+
+edge-requires : tie.Need-edge-requires Inv-loop μ-loop
+edge-requires c κs = c .before .before .before .before .before .pre
+
+cast-numbers-3 : tie.Need-cast-numbers-3 Inv-loop μ-loop
+cast-numbers-3 c = omega arith
+
+array-write-numbers-4 : tie.Need-array-write-numbers-4 Inv-loop μ-loop
+array-write-numbers-4 c = omega arith
+
+returns : tie.Need-returns Inv-loop μ-loop
+unfolding recordFor
+returns c =
+    let d = c .before .before in
+    let size = suffix-length (d .before .before .before .before .pre .0) in
+    rw (c .before .inner .ensures .0, c .edge .ensures .0) (spelled-all (d .before .loop .inv) (omega (arith, size)) _ _)
+
+pub record-of-spec : {M : Type 1} → statement M
+record-of-spec =
+    tie.close
+    (tie.spec
+    Inv-loop
+    μ-loop
+    mul-from
+    add-from
+    length-of-requires
+    add-from-2
+    sub-from
+    cast-numbers
+    array-write-numbers
+    loop-holds
+    add-numbers
+    shared-slice-read-numbers
+    add-numbers-2
+    array-write-numbers-2
+    add-k
+    loop-less
+    loop-again
+    inner-requires
+    cast-numbers-2
+    array-write-numbers-3
+    edge-requires
+    cast-numbers-3
+    array-write-numbers-4
+    returns)

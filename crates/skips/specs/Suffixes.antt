@@ -1,0 +1,70 @@
+-- A backward row as the last bytes of a keyword, and its record.
+use Prim.Native.Nat.{ℕ, _+_, _-_, _*_, _≤_, _<_}
+use mathlib.Core.Path.{_≡_}
+use mathlib.Core.Bool.{Bool}
+use mathlib.Core.List.{List, [], _∷_, _++_}
+use lib.ListN.{length, take, drop, getD}
+use Rattle.rules.specs.Limits.{rowRecord}
+use Rattle.rules.specs.Strings.{any}
+use Rattle.rules.specs.Sets.{Keyword, keywords, keywordsFrom, keywordAt, shortest}
+use Rattle.rules.specs.Rows.{backward, rowsOf}
+use Rattle.rules.specs.Refusals.{pass, fileVerdict}
+use Rattle.rules.specs.Skips.{inner, edge, holdsBefore, endsWithin, named, suffixRows}
+use Rattle.rules.proofs.Count.{mostCommon}
+use Rattle.sets.specs.Words.{earlier, readAt}
+use Rattle.skips.specs.declared.suffixes.Place.{Place}
+
+-- the last z bytes of keyword i of the set s, in trace order
+unfoldable pub suffixAt : List ℕ → ℕ → ℕ → List ℕ
+suffixAt s i z = let w = keywordAt s i .word in drop (length w - z) w
+
+-- k is a keyword's number, in a set that passed its tests
+pub record Listed (s : List ℕ) (k : ℕ) : Type 0 where
+  pub passed : fileVerdict s ≡ pass
+  pub within : k < length (keywords s)
+
+-- and z is at most its length
+pub record Suffix (s : List ℕ) (i z : ℕ) : Type 0 where
+  pub listed : Listed s i
+  pub short : z ≤ length (keywordAt s i .word)
+
+-- document 01's two tests over all keywords
+unfoldable pub someHolds : List Keyword → List ℕ → ℕ → Bool
+someHolds ks v n = any (λ (k : Keyword). holdsBefore v n (k .word)) ks
+
+unfoldable pub someEnds : List Keyword → List ℕ → ℕ → Bool
+someEnds ks v n = any (λ (k : Keyword). endsWithin v n (k .word)) ks
+
+-- a row's record with the largest numbers
+unfoldable pub recordFor : List Keyword → List ℕ → List ℕ
+recordFor ks v = named v ++ (inner ks v ∷ edge ks v ∷ [])
+
+-- a part of a buffer written over from a place on
+unfoldable pub putAt : List ℕ → ℕ → List ℕ → List ℕ
+putAt old place new = take place old ++ new ++ drop (place + length new) old
+
+-- how much of keyword i, read backward, an earlier keyword begins with too, and how many rows the earlier ones have
+unfoldable pub sharedAt : List ℕ → ℕ → ℕ
+sharedAt s i = mostCommon (earlier backward s i) (readAt backward s i)
+
+unfoldable pub rowsBefore : List ℕ → ℕ → ℕ
+rowsBefore s i = length (rowsOf backward (keywordsFrom 0 i s))
+
+-- so many rows are the earlier keywords' and the new ones of keyword i up to depth z
+pub record Reached (s : List ℕ) (rows i z : ℕ) : Type 0 where
+  pub suffix : Suffix s i z
+  pub shared : sharedAt s i ≤ z
+  pub counted : rows + sharedAt s i ≡ rowsBefore s i + z
+
+-- the backward row of that number is this suffix, met there for the first time
+pub record At (s : List ℕ) (row : ℕ) (at : Place) : Type 0 where
+  pub reached : Reached s (row + 1) (at .keyword) (at .depth)
+  pub within : row < length (rowsOf backward (keywords s))
+  pub names : getD (suffixRows (keywords s)) row [] ≡ suffixAt s (at .keyword) (at .depth)
+
+-- before the row file is put: room for it
+pub record PutRows (s : List ℕ) (m rows : ℕ) (buffer : List ℕ) : Type 0 where
+  pub passed : fileVerdict s ≡ pass
+  pub shortest-is : m ≡ shortest (keywords s)
+  pub counted : rows ≡ length (rowsOf backward (keywords s))
+  pub room : rowRecord * rows ≤ length buffer

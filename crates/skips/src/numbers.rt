@@ -1,0 +1,118 @@
+// inner and edge of a suffix, as document 01 words them: against every keyword at every distance. A suffix is the last z bytes of keyword i.
+use sets::length_of;
+ghost use mathlib.Core.Path.{_≡_};
+ghost use Prim.Native.Nat.{ℕ, _+_, _*_, _<_, _≤_};
+ghost use lib.ListN.{length, take, drop};
+ghost use Rattle.rules.specs.Strings.{same};
+ghost use Rattle.rules.specs.Sets.{keywords, keywordAt, shortest};
+ghost use Rattle.rules.specs.Skips.{holdsBefore, endsWithin};
+ghost use Rattle.rules.specs.Skips as Skips;
+ghost use Rattle.skips.specs.Suffixes.{Suffix, Listed, suffixAt, someHolds, someEnds};
+
+// Whether n bytes of the set are the same from p on and from q on.
+fn alike(set: &[u8], p: usize, q: usize, n: usize) -> bool
+    requires { ⌜ (p + n ≤ length (now set)) × (q + n ≤ length (now set)) ⌝ }
+    ensures { λ r. ⌜ r ≡ same (take n (drop p (now (set .entry)))) (take n (drop q (now (set .entry)))) ⌝ }
+{
+    let mut k = 0;
+    while k < n {
+        if set[p + k] != set[q + k] {
+            return false;
+        }
+        k += 1;
+    }
+    true
+}
+
+// Whether keyword k has the suffix with exactly n bytes after it.
+fn holds_before(set: &[u8], i: usize, z: usize, k: usize, n: usize) -> bool
+    requires { ⌜ Suffix (now set) i z × Listed (now set) k × (n < 16) ⌝ }
+    ensures { λ r. ⌜ r ≡ holdsBefore (suffixAt (now (set .entry)) i z) n (keywordAt (now (set .entry)) k .word) ⌝ }
+{
+    let a = length_of(set, i);
+    let b = length_of(set, k);
+    if b < n + z {
+        return false;
+    }
+    alike(set, 18 * i + 1 + a - z, 18 * k + 1 + b - n - z, z)
+}
+
+// Whether some string made of the suffix and n further bytes ends with keyword k.
+fn ends_within(set: &[u8], i: usize, z: usize, k: usize, n: usize) -> bool
+    requires { ⌜ Suffix (now set) i z × Listed (now set) k ⌝ }
+    ensures { λ r. ⌜ r ≡ endsWithin (suffixAt (now (set .entry)) i z) n (keywordAt (now (set .entry)) k .word) ⌝ }
+{
+    let a = length_of(set, i);
+    let b = length_of(set, k);
+    if b <= n {
+        return true;
+    }
+    let front = b - n;
+    if z < front {
+        return false;
+    }
+    alike(set, 18 * i + 1 + a - front, 18 * k + 1, front)
+}
+
+// Whether some keyword has the suffix with exactly n bytes after it.
+fn some_holds(set: &[u8], i: usize, z: usize, n: usize) -> bool
+    requires { ⌜ Suffix (now set) i z × (n < 16) ⌝ }
+    ensures { λ r. ⌜ r ≡ someHolds (keywords (now (set .entry))) (suffixAt (now (set .entry)) i z) n ⌝ }
+{
+    let count = set.len() / 18;
+    let mut k = 0;
+    while k < count {
+        if holds_before(set, i, z, k, n) {
+            return true;
+        }
+        k += 1;
+    }
+    false
+}
+
+// Whether some string made of the suffix and n further bytes ends with a keyword.
+fn some_ends(set: &[u8], i: usize, z: usize, n: usize) -> bool
+    requires { ⌜ Suffix (now set) i z ⌝ }
+    ensures { λ r. ⌜ r ≡ someEnds (keywords (now (set .entry))) (suffixAt (now (set .entry)) i z) n ⌝ }
+{
+    let count = set.len() / 18;
+    let mut k = 0;
+    while k < count {
+        if ends_within(set, i, z, k, n) {
+            return true;
+        }
+        k += 1;
+    }
+    false
+}
+
+// inner of the suffix: the least n from 1 up such that some keyword has it with exactly n bytes after it, capped at m.
+pub fn inner(set: &[u8], i: usize, z: usize, m: usize) -> usize
+    requires { ⌜ Suffix (now set) i z × (m ≡ shortest (keywords (now set))) ⌝ }
+    ensures { λ r. ⌜ (r ≡ Skips.inner (keywords (now (set .entry))) (suffixAt (now (set .entry)) i z)) × (r < 16) ⌝ }
+{
+    let mut n = 1;
+    while n < m {
+        if some_holds(set, i, z, n) {
+            return n;
+        }
+        n += 1;
+    }
+    n
+}
+
+// edge of the suffix: the least n from 1 up such that some string made of it and n further bytes ends with a keyword, capped
+// at m.
+pub fn edge(set: &[u8], i: usize, z: usize, m: usize) -> usize
+    requires { ⌜ Suffix (now set) i z × (m ≡ shortest (keywords (now set))) ⌝ }
+    ensures { λ r. ⌜ (r ≡ Skips.edge (keywords (now (set .entry))) (suffixAt (now (set .entry)) i z)) × (r < 16) ⌝ }
+{
+    let mut n = 1;
+    while n < m {
+        if some_ends(set, i, z, n) {
+            return n;
+        }
+        n += 1;
+    }
+    n
+}
