@@ -2,7 +2,7 @@
 -- of what the caller reads. Demand 3's bound, and demand 2's audit of the hit buffer.
 use Prim.Native.Nat.{ℕ, _+_, _*_, _/_, _≤_, _<_, min}
 use native.Mathlib.Omega.{arith}
-use mathlib.Core.Path.{_≡_, refl, sym, _∙_, ap, subst}
+use mathlib.Core.Path.{_≡_, sym, _∙_, ap, subst}
 use mathlib.Core.Logic.{⊎-elim}
 use mathlib.Core.List.{List}
 use lib.ListN.{length, getD, drop}
@@ -13,7 +13,7 @@ use Rattle.rules.specs.Rows.{forward}
 use Rattle.rules.specs.Hits.{Hit, hits, energy, hitBuffer}
 use Rattle.rules.specs.Audit.{Occurs, Before}
 use Rattle.rules.specs.Questions.{questions, mostQuestions}
-use Rattle.rules.specs.Refusals.{Verdict, pass, refuse, setVerdict, traceVerdict, workspaceVerdict}
+use Rattle.rules.specs.Refusals.{pass}
 use Rattle.rules.specs.Answers.{Told, told}
 use Rattle.rules.specs.Promises.{Forward, onPass, kept, answerOr, forwardTold, forwardVerdict}
 use Rattle.rules.proofs.Sound.{Sound}

@@ -1,6 +1,6 @@
 -- The scan's row stands for the longest suffix read that begins a keyword, and a string begins a keyword exactly where it is
 -- a row: so a step over the rows is the definition's.
-use Prim.Native.Nat.{ℕ, _+_, _*_, _-_, _≤_, _<_}
+use Prim.Native.Nat.{ℕ, _+_, _*_, _≤_, _<_}
 use native.Mathlib.Numerals.{add-one}
 use native.Mathlib.Omega.{arith}
 use mathlib.Core.Path.{_≡_, refl, sym, _∙_, ap}
@@ -9,19 +9,22 @@ use mathlib.Core.List.{List, [], _∷_, _++_, append-nil, append-assoc}
 use lib.ListN.{length, take, getD, length-append, length-take}
 use lib.Seq.{take-suc}
 use Rattle.rules.specs.Limits.{longestWord, longestTrace}
-use Rattle.rules.specs.Strings.{same, any, keep, countTo, suffixes, longest, longestBehind}
+use Rattle.rules.specs.Strings.{same, any, longest, longestBehind}
 use Rattle.rules.specs.Sets.{Keyword, keywords}
 use Rattle.rules.specs.Rows.{forward, starts, rowsOf, rowOf, failureCell}
-use Rattle.rules.specs.Questions.{questionsAt, questions, mostQuestions}
+use Rattle.rules.specs.Hits.{hits, hitsAfter}
+use Rattle.rules.specs.Questions.{questionsAt, questionsAfter, questions}
 use Rattle.rules.proofs.Sound.{Sound}
-use Rattle.rules.proofs.Rows.{root-row, rowed-rows, row-at, rowOf-is, starts-closed}
+use Rattle.rules.proofs.Rows.{root-row, rowed-rows, row-at, rowOf-is, rowOf-nil, starts-closed}
 use Rattle.rules.proofs.PrefixRows.{filled-rows, row-short}
-use Rattle.rules.proofs.State.{askedBy, asked-state, longest-passes, longest-state}
-use Rattle.rules.proofs.Questions.{questions-asked, questions-more, questions-bound}
+use Rattle.rules.proofs.State.{askedBy, asked-state, longest-nil, longest-passes, longest-state}
+use Rattle.rules.proofs.Questions.{questions-more, questions-bound}
 use Rattle.rows.specs.Falls.{isRow, Ready, Moved}
 use Rattle.rows.specs.declared.failures.Advanced.{Advanced}
 use Rattle.forward.specs.declared.Running.{Running}
-use Rattle.forward.specs.Running.{Read, Scanning, Prepared, Ending, Going}
+use Rattle.hits.specs.declared.Tally.{Tally}
+use Rattle.hits.specs.Tallies.{Tallied}
+use Rattle.forward.specs.Running.{stateOf, AllFound, Scanning, Prepared, Ending, Going}
 
 -- the rows of the set s, and what begins one of its keywords
 abbrev pub rowsIn : List ℕ → List (List ℕ)
@@ -42,7 +45,7 @@ module _ {s ws : List ℕ} (prepared : Prepared s ws) (u : List ℕ) where
       same-tests (longest (startsIn s) u)
       ∙ longest-passes (startsIn s) (sym (same-tests []) ∙ root-row (rowed-rows forward (keywords s))) u
 
-  module _ (row : ℕ) (state : row ≡ rowOf (rowsIn s) (longest (startsIn s) u)) where
+  module _ (row : ℕ) (state : row ≡ stateOf (keywords s) u) where
     pub state-within : row < length (rowsIn s)
     state-within = rw state (rowOf-is (rowsIn s) (longest (startsIn s) u) state-is .0)
 
@@ -77,36 +80,46 @@ module _ {s ws : List ℕ} (prepared : Prepared s ws) (u : List ℕ) where
           moved .asked
           ∙ rw (row-starts (prepared .sound), state-reads) (sym (asked-state (startsIn s) u c))
 
--- a scan that has one byte to read
+-- nothing read
+pub scanning-none : (ks : List Keyword) (old : List ℕ) {tally : Tally} → Tallied [] old tally old → Scanning ks [] old (record { row = 0; end = 0; questions = 0; tally = tally }) old
+unfolding hits hitsAfter questions questionsAfter
+scanning-none ks old nothing =
+    record {
+      state = rw (longest-nil (starts forward ks)) (sym (rowOf-nil (rowed-rows forward ks)));
+      end = refl;
+      asked = refl;
+      found = nothing;
+    }
+
+-- one byte more: its questions are few, the hits behind it may be listed, and then it is read
 module _ {s u old ws hs : List ℕ} {run : Running} (going : Going s u old ws 1 run hs) {c : ℕ} {r : Advanced}
     (moved : Moved (rowsIn s) (getD (rowsIn s) (run .row) []) c r) where
   more : run .questions + r .asked ≡ questions (keywords s) (u ++ (c ∷ []))
   more =
       omega (
         arith,
-        going .scanning .read .asked,
-        moved-asked (going .prepared) u (run .row) (going .scanning .read .state) moved,
+        going .scanning .asked,
+        moved-asked (going .prepared) u (run .row) (going .scanning .state) moved,
         questions-more (keywords s) u c,
       )
 
-  -- its questions are few
   pub step-few : run .questions + r .asked ≤ 2 * longestTrace
   step-few = omega (arith, more, questions-bound (keywords s) (u ++ (c ∷ [])), length-append u (c ∷ []), going .near)
 
-  pub step-read : Ending s u c old ws (record { row = r .row; end = run .end + 1; count = run .count; questions = run .questions + r .asked; energy = run .energy; listed = run .listed }) hs
-  step-read =
-      let t = going .scanning .tally in
+  pub step-ending : Ending s u c old ws (r .row) (run .end + 1) (run .tally) hs
+  step-ending =
       record {
         prepared = going .prepared;
         near = omega (arith, going .near);
-        read =
-            record {
-              state = moved-state (going .prepared) u (run .row) (going .scanning .read .state) moved;
-              end = omega (arith, going .scanning .read .end, length-append u (c ∷ []));
-              asked = more;
-            };
-        tally = record { counted = t .counted; charged = t .charged; listed = t .listed; buffer = t .buffer };
+        state = moved-state (going .prepared) u (run .row) (going .scanning .state) moved;
+        ended = omega (arith, going .scanning .end, length-append u (c ∷ []));
+        found = going .scanning .found;
       }
+
+  pub step-read : {tally : Tally} {hs′ : List ℕ}
+      → AllFound (keywords s) (u ++ (c ∷ [])) old tally hs′
+      → Scanning (keywords s) (u ++ (c ∷ [])) old (record { row = r .row; end = run .end + 1; questions = run .questions + r .asked; tally = tally }) hs′
+  step-read found = record { state = step-ending .state; end = step-ending .ended; asked = more; found = found }
 
 -- a scan that has the bytes t to read: after none of them, before one more, and after it
 module _ {s u old ws hs₀ : List ℕ} {run₀ : Running} (t : List ℕ) (going : Going s u old ws (length t) run₀ hs₀) where

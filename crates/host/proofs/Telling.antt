@@ -12,10 +12,10 @@ use Rattle.rules.specs.Rows.{forward}
 use Rattle.rules.specs.Hits.{over}
 use Rattle.rules.specs.Refusals.{pass, refuse, refuseIf, orElse, setVerdict, traceVerdict, workspaceVerdict, answerVerdict}
 use Rattle.rules.specs.Answers.{Told, answerBytes}
-use Rattle.rules.specs.Promises.{onPass, kept, answerOr, Forward, forwardTold, forwardVerdict, hostVerdict, hostTold, Host}
+use Rattle.rules.specs.Promises.{onPass, kept, answerOr, Forward, forwardTold, forwardVerdict, Make, Check, hostVerdict, hostTold, Host}
 use Rattle.rules.proofs.Verdicts.{verdict-cases, refuse-orElse, pass-orElse, orElse-right, refuseIf-true, refuseIf-false}
 use Rattle.rules.proofs.Sets.{set-passed}
-use Rattle.host.specs.Calls.{Telling, ForwardCall}
+use Rattle.host.specs.Calls.{Telling, ForwardCall, MakeCall, CheckCall}
 
 -- a short buffer is refused and left as it was
 pub host-short : (s t answer : List ℕ) → length answer < answerSize → Host s t answer 17 answer
@@ -55,19 +55,36 @@ host-told {ws = ws} {answer = answer} s t a b long room promise same written =
       written = rw fine (written ∙ ap (λ (x : Told). over (answerBytes x) answer) told);
     }
 
--- the bench group's forward scan
-pub forward-short : (s t ws hs answer : List ℕ) → length answer < answerSize → ForwardCall s t ws hs answer 17 ws hs answer
-forward-short s t ws hs answer short =
-    record { short = λ h. (refl, refl, refl, refl); called = λ h. absurd (omega arith) }
-
-pub forward-called : {ws hs ws′ hs′ answer answer′ : List ℕ} (s t : List ℕ) (a b : Told)
-    → answerSize ≤ length answer
-    → Forward s t ws hs b ws′ hs′
+-- The bench group's calls: a short buffer is refused and all is left as it was, else the job's answer b is told as a.
+telling : {answer answer′ : List ℕ} (P : Told → Type 0) (a b : Told)
+    → P b
     → a ≡ b
     → answer′ ≡ over (answerBytes a) answer
-    → ForwardCall s t ws hs answer (a .number) ws′ hs′ answer′
-forward-called {ws = ws} {hs} {ws′} {hs′} s t a b long promise same written =
-    record {
-      short = λ h. absurd (omega arith);
-      called = λ h. (a, subst (λ (x : Told). Forward s t ws hs x ws′ hs′) (sym same) promise, record { numbered = refl; written = written });
-    }
+    → (x : Told) × P x × Telling answer x (a .number) answer′
+telling P a b promise same written = (a, subst P (sym same) promise, record { numbered = refl; written = written })
+
+module _ (s : List ℕ) {answer : List ℕ} where
+  module _ (short : length answer < answerSize) where
+    pub forward-short : (t ws hs : List ℕ) → ForwardCall s t ws hs answer 17 ws hs answer
+    forward-short t ws hs = record { short = λ h. (refl, refl, refl, refl); called = λ h. absurd (omega arith) }
+
+    pub make-short : (ws rowb byteb : List ℕ) → MakeCall s ws rowb byteb answer 17 ws rowb byteb answer
+    make-short ws rowb byteb = record { short = λ h. (refl, refl, refl, refl, refl); called = λ h. absurd (omega arith) }
+
+    pub check-short : (rowf bytef ws : List ℕ) → CheckCall s rowf bytef ws answer 17 ws answer
+    check-short rowf bytef ws = record { short = λ h. (refl, refl, refl); called = λ h. absurd (omega arith) }
+
+  module _ (long : answerSize ≤ length answer) (a : Told) {b : Told} {answer′ : List ℕ} (same : a ≡ b) (written : answer′ ≡ over (answerBytes a) answer) where
+    pub forward-called : {t ws hs ws′ hs′ : List ℕ} → Forward s t ws hs b ws′ hs′ → ForwardCall s t ws hs answer (a .number) ws′ hs′ answer′
+    forward-called {t} {ws} {hs} {ws′} {hs′} promise =
+        record { short = λ h. absurd (omega arith); called = λ h. telling (λ (x : Told). Forward s t ws hs x ws′ hs′) a b promise same written }
+
+    pub make-called : {ws rowb byteb ws′ rowb′ byteb′ : List ℕ}
+        → Make s ws rowb byteb b ws′ rowb′ byteb′
+        → MakeCall s ws rowb byteb answer (a .number) ws′ rowb′ byteb′ answer′
+    make-called {ws} {rowb} {byteb} {ws′} {rowb′} {byteb′} promise =
+        record { short = λ h. absurd (omega arith); called = λ h. telling (λ (x : Told). Make s ws rowb byteb x ws′ rowb′ byteb′) a b promise same written }
+
+    pub check-called : {rowf bytef ws ws′ : List ℕ} → Check s rowf bytef ws b ws′ → CheckCall s rowf bytef ws answer (a .number) ws′ answer′
+    check-called {rowf} {bytef} {ws} {ws′} promise =
+        record { short = λ h. absurd (omega arith); called = λ h. telling (λ (x : Told). Check s rowf bytef ws x ws′) a b promise same written }

@@ -6,7 +6,7 @@ use lib.ListN.{length}
 use Rattle.rules.specs.Limits.{answerSize}
 use Rattle.rules.specs.Hits.{over}
 use Rattle.rules.specs.Answers.{Told, answerBytes}
-use Rattle.rules.specs.Promises.{Forward}
+use Rattle.rules.specs.Promises.{Forward, Make, Check}
 use Rattle.host.specs.declared.answer.Answer.{Answer}
 
 -- an answer's value in document 01's numbers
@@ -23,3 +23,13 @@ pub record Telling (answer : List ℕ) (a : Told) (result : ℕ) (answer′ : Li
 pub record ForwardCall (s t ws hs answer : List ℕ) (result : ℕ) (ws′ hs′ answer′ : List ℕ) : Type 0 where
   pub short : length answer < answerSize → (result ≡ 17) × (ws′ ≡ ws) × (hs′ ≡ hs) × (answer′ ≡ answer)
   pub called : answerSize ≤ length answer → (a : Told) × Forward s t ws hs a ws′ hs′ × Telling answer a result answer′
+
+-- making
+pub record MakeCall (s ws rowb byteb answer : List ℕ) (result : ℕ) (ws′ rowb′ byteb′ answer′ : List ℕ) : Type 0 where
+  pub short : length answer < answerSize → (result ≡ 17) × (ws′ ≡ ws) × (rowb′ ≡ rowb) × (byteb′ ≡ byteb) × (answer′ ≡ answer)
+  pub called : answerSize ≤ length answer → (a : Told) × Make s ws rowb byteb a ws′ rowb′ byteb′ × Telling answer a result answer′
+
+-- the check
+pub record CheckCall (s rowf bytef ws answer : List ℕ) (result : ℕ) (ws′ answer′ : List ℕ) : Type 0 where
+  pub short : length answer < answerSize → (result ≡ 17) × (ws′ ≡ ws) × (answer′ ≡ answer)
+  pub called : answerSize ≤ length answer → (a : Told) × Check s rowf bytef ws a ws′ × Telling answer a result answer′

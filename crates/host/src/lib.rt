@@ -2,11 +2,14 @@
 pub mod answer; // answer.rt: an answer in its twenty bytes
 
 use crate::answer::from_scanned;
+use crate::answer::from_tabled;
 use crate::answer::write;
 use forward::scan;
+use skips::check;
+use skips::make;
 ghost use Prim.Native.Nat.{ℕ};
 ghost use Rattle.rules.specs.Promises.{Host};
-ghost use Rattle.host.specs.Calls.{ForwardCall};
+ghost use Rattle.host.specs.Calls.{ForwardCall, MakeCall, CheckCall};
 
 // The cost of a trace: the forward scan's count, questions and energy, in an answer of twenty bytes. The result is the refusal's number, or 0.
 #[no_mangle]
@@ -40,4 +43,42 @@ pub extern "C" fn bezowik_forward(
     let found = from_scanned(scan(set, trace, workspace, hits));
     write(answer, found);
     found.number
+}
+
+// Making skip tables: the largest safe numbers at the front of two buffers. The answer has the rows in the place of the count.
+#[no_mangle]
+pub extern "C" fn bezowik_make(
+    set: &[u8],
+    workspace: &mut [u16],
+    row_buffer: &mut [u8],
+    byte_buffer: &mut [u8],
+    answer: &mut [u8],
+) -> u16
+    ensures { λ r. ⌜ MakeCall (now (set .entry)) (now (workspace .entry)) (now («row_buffer» .entry)) (now («byte_buffer» .entry)) (now (answer .entry)) r (now (workspace .exit)) (now («row_buffer» .exit)) (now («byte_buffer» .exit)) (now (answer .exit)) ⌝ }
+{
+    if answer.len() < 20 {
+        return 17;
+    }
+    let made = from_tabled(make(set, workspace, row_buffer, byte_buffer));
+    write(answer, made);
+    made.number
+}
+
+// The check of a skip table. The answer has the rows in the place of the count.
+#[no_mangle]
+pub extern "C" fn bezowik_check(
+    set: &[u8],
+    row_file: &[u8],
+    byte_file: &[u8],
+    workspace: &mut [u16],
+    answer: &mut [u8],
+) -> u16
+    ensures { λ r. ⌜ CheckCall (now (set .entry)) (now («row_file» .entry)) (now («byte_file» .entry)) (now (workspace .entry)) (now (answer .entry)) r (now (workspace .exit)) (now (answer .exit)) ⌝ }
+{
+    if answer.len() < 20 {
+        return 17;
+    }
+    let checked = from_tabled(check(set, row_file, byte_file, workspace));
+    write(answer, checked);
+    checked.number
 }

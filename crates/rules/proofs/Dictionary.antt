@@ -138,6 +138,12 @@ module _ (ks : List Keyword) (filled : (k : Keyword) → List·Memᴰ k ks → 1
   unfolding endingAt suffixes flatMap
   ending-nil = rw (keywordsThatAre-none ks [] isKeyword-nil)
 
+  -- those that end any string: itself where it is a keyword, then those of the dictionary row
+  pub ending-behind : (r : List ℕ) → endingAt ks r ≡ keywordsThatAre r ks ++ endingAt ks (longestBehind (isKeyword ks) r)
+  unfolding longestBehind
+  ending-behind [] = rw (keywordsThatAre-none ks [] isKeyword-nil)
+  ending-behind (a ∷ r) = ending-dictionary ks (a ∷ r) (omega arith)
+
   -- and distinct: a keyword's own hit first
   module _ (distinct : Ordered (λ (k l : Keyword). k .word ≡ l .word → ⊥) ks) where
     pub ending-keyword : (k : Keyword)

@@ -2,19 +2,31 @@
 -- distinct, the first keyword that is read as the row is the only one.
 use Prim.Native.Nat.{ℕ, suc, _<_}
 use native.Mathlib.Omega.{arith}
-use mathlib.Core.Path.{_≡_, sym, _∙_, ap}
+use mathlib.Core.Path.{_≡_, refl, sym, _∙_, ap}
 use mathlib.Core.Bool.{true}
-use mathlib.Core.List.{List, [], _∷_}
+use mathlib.Core.List.{List, [], _∷_, List·Memᴰ, List·Memᴰ·head, List·Memᴰ·tail}
 use lib.ListN.{length}
-use Rattle.rules.specs.Strings.{same}
+use Rattle.rules.specs.Strings.{same, any}
 use Rattle.rules.specs.Sets.{Keyword, keywordOf, keywords, keywordAt, keywordsThatAre, isKeyword}
 use Rattle.rules.specs.Rows.{Way, readBy, keyOf}
-use Rattle.rules.proofs.Strings.{passes, eq-same, any-mem}
+use Rattle.rules.proofs.Strings.{either, never, passes, same-true, eq-same, any-mem}
 use Rattle.rules.proofs.Sound.{Sound}
 use Rattle.rules.proofs.Sets.{keywords-mem, length-keywords}
 use Rattle.rules.proofs.Dictionary.{isKeyword-true, keywordsThatAre-none, keywordsThatAre-one}
 use Rattle.rules.proofs.Keys.{read-twice, no-keyword-no-key, no-key-no-keyword}
-use Rattle.rules.proofs.Numbers.{key-some}
+
+-- the first keyword that is read as r has the say
+pub key-some : (way : Way) (ks : List Keyword) (r : List ℕ)
+    → any (λ (k : Keyword). same (readBy way (k .word)) r) ks ≡ true
+    → (k : Keyword) × List·Memᴰ k ks × (readBy way (k .word) ≡ r) × (keyOf way ks r ≡ suc (k .number))
+unfolding any keyOf
+key-some way [] r h = never {b = true} refl (sym h)
+key-some way (k ∷ ks) r h =
+    either (same (readBy way (k .word)) r)
+    (λ t. (k, List·Memᴰ·head refl, same-true (readBy way (k .word)) r t, rw t))
+    (λ f.
+    let w = key-some way ks r (rw f at h) in
+    (w .0, List·Memᴰ·tail (w .1), w .2, rw f (w .3)))
 
 -- no keyword is read as r
 pub key-none : (way : Way) (ks : List Keyword) (r : List ℕ) → keyOf way ks r ≡ 0 → keywordsThatAre (readBy way r) ks ≡ []

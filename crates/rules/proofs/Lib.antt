@@ -22,7 +22,6 @@ pub mod Orders
 pub mod Hits
 pub mod Buffers
 pub mod Pairs
-pub mod Numbers
 pub mod KeyNumbers
 pub mod Least
 pub mod Searches

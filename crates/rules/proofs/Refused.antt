@@ -1,5 +1,5 @@
 -- No refusal has the number 0, which says that there is none: each test's number is in the table, and so is the first's.
-use Prim.Native.Nat.{ℕ, zero, suc, _≤_, _/_, _%_}
+use Prim.Native.Nat.{ℕ, zero, suc, _≤_, _/_}
 use mathlib.Core.Path.{_≡_}
 use mathlib.Core.Bool.{Bool, true, false}
 use mathlib.Core.List.{List, [], _++_, _∷_}

@@ -1,10 +1,14 @@
--- Before the first byte there is nothing to count, and the empty string is row 0.
-use Rattle.forward.proofs.Tallies.{scanning-none}
+-- Before the first byte nothing is found, and the empty string is row 0.
+use borrow.Author.Needs.{needs}
+use Rattle.forward.proofs.States.{scanning-none}
 use Rattle.forward.proofs.fresh.Statement.{statement}
 use Rattle.forward.proofs.fresh.Tie as tie
 
+nothing-requires : tie.Need-nothing-requires
+nothing-requires c κs = search needs
+
 returns : tie.Need-returns
-returns c = scanning-none
+returns c = λ ks hits. scanning-none ks hits (c .nothing .ensures hits)
 
 pub fresh-spec : {M : Type 1} → statement M
-fresh-spec = tie.close (tie.spec returns)
+fresh-spec = tie.close (tie.spec nothing-requires returns)

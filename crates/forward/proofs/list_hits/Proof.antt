@@ -4,21 +4,20 @@ use native.Mathlib.Omega.{arith}
 use mathlib.Core.Path.{_≡_, refl, sym, _∙_}
 use mathlib.Core.Logic.{⊎-elim}
 use mathlib.Core.List.{List, [], _∷_, _++_}
-use lib.ListN.{length, getD, length-append}
+use lib.ListN.{length, length-append}
 use denote.Ref.{now}
 use Rattle.forward.specs.Running.{Prepared, Ending}
-use Rattle.forward.proofs.States.{rowsIn}
-use Rattle.forward.proofs.Endings.{Listing, at-state, row-room, dictionary-shorter, listing-own, listing-none, listing-key, listing-hit, listing-more, listing-all}
+use Rattle.forward.proofs.Endings.{stringAt, Listing, at-state, row-room, dictionary-shorter, listing-own, listing-none, listing-key, listing-hit, listing-more, listing-all}
 use Rattle.forward.proofs.list_hits.Statement.{statement}
 use Rattle.forward.proofs.list_hits.Tie as tie
 
 abbrev Inv-loop : tie.InvT-loop
-Inv-loop ws set hits₀ next₀ state at₀ hits next at =
+Inv-loop ws set hits₀ row end next₀ at₀ hits next at =
     (length hits ≡ length hits₀)
-    × ((u : List ℕ) (b : ℕ) (old : List ℕ) → Ending set u b old ws next₀ hits₀ → Listing set (u ++ (b ∷ [])) old at next hits)
+    × ((u : List ℕ) (b : ℕ) (old : List ℕ) → Ending set u b old ws row end next₀ hits₀ → Listing set (u ++ (b ∷ [])) old at next hits)
 
 abbrev μ-loop : tie.MeasureT-loop
-μ-loop ws set hits₀ next₀ state at₀ hits next at = length (getD (rowsIn set) at [])
+μ-loop ws set hits₀ row end next₀ at₀ hits next at = length (stringAt set at)
 
 key-requires : tie.Need-key-requires Inv-loop μ-loop
 key-requires c κs = let e = c .before .before .before .pre .3 in row-room (e .prepared) _ (at-state e)
@@ -36,9 +35,10 @@ loop-holds c = (
       (c .if1 .came),
 )
 
--- what the loop's head knows, at the prefix that the caller names
+-- what the loop's head knows, at what the caller says was read
 prepared : (c : tie.At-loop Inv-loop μ-loop)
-    → Prepared (now (c .before .before .before .before .before .before .args .set)) (now (c .before .before .before .before .before .before .args .ws))
+    → let a = c .before .before .before .before .before .before .args in
+    Prepared (now (a .set)) (now (a .ws))
 prepared c = c .before .before .before .before .before .before .pre .3 .prepared
 
 listing : (c : tie.At-loop Inv-loop μ-loop)
@@ -54,14 +54,14 @@ sub-k c =
     let d = c .before .before in
     rw (c .key2 .ensures .0) (listing-key (prepared d) (listing d) (c .before .loop-test .taken))
 
-hit-requires : tie.Need-hit-requires Inv-loop μ-loop
-hit-requires c κs =
+list-requires : tie.Need-list-requires Inv-loop μ-loop
+list-requires c κs =
     let d = c .before .before .before in
     let p = d .before .before .before .before .before .before .pre in (
       listing d .done,
       p .2,
-      rw (c .before .key2 .ensures .0)
-          (listing-hit (prepared d) (listing d) (c .before .before .loop-test .taken) (omega (arith, p .3 .near, length-append (p .0) (p .1 ∷ [])))),
+      listing-hit (prepared d) (listing d) (c .before .before .loop-test .taken) (c .before .key2 .ensures .0) (p .3 .ended)
+          (omega (arith, p .3 .ended, p .3 .near, length-append (p .0) (p .1 ∷ []))),
     )
 
 dictionary-requires-2 : tie.Need-dictionary-requires-2 Inv-loop μ-loop
@@ -78,15 +78,15 @@ loop-less c =
 loop-again : tie.Need-loop-again Inv-loop μ-loop
 loop-again c =
     let d = c .before .before .before .before .before .before .before in
-    let called = c .before .before .before .hit in
+    let called = c .before .before .before .list in
     let key = c .before .before .before .before .before .key2 .ensures .0 in
     let some = c .before .before .before .before .before .before .loop-test .taken in (
       called .kept .1 .0 ∙ d .loop .inv .0,
       λ u b old e.
           let l = d .loop .inv .1 u b old e in
-          let hitting = listing-hit (e .prepared) l some (omega (arith, e .near, length-append u (b ∷ []))) in
+          let hitting = listing-hit (e .prepared) l some key (e .ended) (omega (arith, e .ended, e .near, length-append u (b ∷ []))) in
           rw (c .dictionary2 .ensures .0)
-          (listing-more (e .prepared) l some (rw key at (called .ensures (l .done) old (rw key hitting)))),
+          (listing-more (e .prepared) l some key (e .ended) (called .ensures (l .done) old hitting)),
     )
 
 same-length : tie.Need-same-length Inv-loop μ-loop
@@ -106,7 +106,7 @@ list-hits-spec =
     loop-holds
     key-requires-2
     sub-k
-    hit-requires
+    list-requires
     dictionary-requires-2
     loop-less
     loop-again

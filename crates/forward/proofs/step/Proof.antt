@@ -3,15 +3,16 @@ use native.Mathlib.Omega.{arith}
 use mathlib.Core.List.{[]}
 use lib.ListN.{getD}
 use denote.Ref.{now}
+use Rattle.rules.specs.Limits.{longestWord}
 use Rattle.rows.specs.Falls.{Moved}
-use Rattle.forward.proofs.States.{rowsIn, state-ready, step-few, step-read}
+use Rattle.forward.proofs.States.{rowsIn, state-ready, step-few, step-ending, step-read}
 use Rattle.forward.proofs.step.Statement.{statement}
 use Rattle.forward.proofs.step.Tie as tie
 
 advance-requires : tie.Need-advance-requires
 advance-requires c κs =
     let p = c .before .before .before .pre in
-    (rowsIn (now (c .before .before .before .args .set)), 15, state-ready (p .2 .prepared) (p .0) _ (p .2 .scanning .read .state))
+    (rowsIn (now (c .before .before .before .args .set)), longestWord, state-ready (p .2 .prepared) (p .0) _ (p .2 .scanning .state))
 
 -- where the step leads, over the rows of the set
 moved : (c : tie.After-advance)
@@ -19,16 +20,16 @@ moved : (c : tie.After-advance)
     Moved (rowsIn (now (a .set))) (getD (rowsIn (now (a .set))) (a .run .row) []) (a .c) (c .advance .result)
 moved c =
     let p = c .before .before .before .before .pre in
-    c .advance .ensures (rowsIn (now (c .before .before .before .before .args .set))) 15
-    (state-ready (p .2 .prepared) (p .0) _ (p .2 .scanning .read .state))
+    c .advance .ensures (rowsIn (now (c .before .before .before .before .args .set))) longestWord
+    (state-ready (p .2 .prepared) (p .0) _ (p .2 .scanning .state))
 
-add-t9 : tie.Need-add-t9
-add-t9 c =
+add-end : tie.Need-add-end
+add-end c =
     let g = c .before .before .before .before .before .pre .2 in
-    omega (arith, g .scanning .read .end, g .near)
+    omega (arith, g .scanning .end, g .near)
 
-add-t10 : tie.Need-add-t10
-add-t10 c =
+add-questions : tie.Need-add-questions
+add-questions c =
     let d = c .before .before .before in
     omega (arith, step-few (d .before .before .before .before .pre .2) (moved d))
 
@@ -36,7 +37,7 @@ list-hits-requires : tie.Need-list-hits-requires
 list-hits-requires c κs =
     let d = c .before .before .before .before in
     let p = d .before .before .before .before .pre in
-    (p .0, d .before .before .before .before .args .c, p .1, step-read (p .2) (moved d))
+    (p .0, d .before .before .before .before .args .c, p .1, step-ending (p .2) (moved d))
 
 same-length : tie.Need-same-length
 same-length c = c .before .before .list-hits .kept .1 .1 .0
@@ -44,8 +45,9 @@ same-length c = c .before .before .list-hits .kept .1 .1 .0
 returns : tie.Need-returns
 returns c = λ u old g.
     let d = c .before .before .before .before .before .before .before in
-    c .before .before .list-hits .ensures u (d .before .before .before .before .args .c) old (step-read g (moved d))
+    step-read g (moved d) (c .before .before .list-hits .ensures u (d .before .before .before .before .args .c) old (step-ending g (moved d)))
 
 pub step-spec : {M : Type 1} → statement M
 step-spec =
-    tie.close (tie.spec advance-requires add-t9 add-t10 list-hits-requires same-length returns)
+    tie.close
+    (tie.spec advance-requires add-end add-questions list-hits-requires same-length returns)

@@ -9,7 +9,7 @@ use Rattle.host.proofs.bezowik_forward.Tie as tie
 returns : tie.Need-returns
 returns c =
     let a = c .before .before .before .before .before .before .args in
-    forward-short (now (a .set)) (now (a .trace)) (now (a .workspace)) (now (a .hits)) (now (a .answer)) (c .if1 .taken)
+    forward-short (now (a .set)) (c .if1 .taken) (now (a .trace)) (now (a .workspace)) (now (a .hits))
 
 scan-requires : tie.Need-scan-requires
 scan-requires c κs = search needs
@@ -36,9 +36,9 @@ returns-2 c =
     let scanned = told .before .before .before .before .before in
     let other = scanned .before .before .before in
     let a = other .before .before .before .before .before .before .args in
-    forward-called (now (a .set)) (now (a .trace)) (toldOf (told .from-scanned .result)) _ (other .if1 .left) (scanned .scan .ensures)
-    (told .from-scanned .ensures)
+    forward-called (now (a .set)) (other .if1 .left) (toldOf (told .from-scanned .result)) (told .from-scanned .ensures)
     (written .write .ensures)
+    (scanned .scan .ensures)
 
 pub bezowik-forward-spec : {M : Type 1} → statement M
 bezowik-forward-spec =

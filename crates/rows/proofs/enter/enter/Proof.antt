@@ -3,7 +3,7 @@ use mathlib.Core.Path.{_≡_, sym, _∙_, ap}
 use denote.Ref.{now}
 use borrow.Author.Needs.{needs}
 use Rattle.rules.specs.Refusals.{pass, fileVerdict}
-use Rattle.sets.specs.Words.{wayOf, verdictOf}
+use Rattle.sets.specs.Words.{verdictOf}
 use Rattle.rows.proofs.Admissions.{admission-file, admission-rows, admission-trace, admission-room, admission-pass}
 use Rattle.rows.proofs.enter.enter.Statement.{statement}
 use Rattle.rows.proofs.enter.enter.Tie as tie

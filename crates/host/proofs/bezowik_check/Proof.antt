@@ -1,0 +1,50 @@
+-- The check, told in twenty bytes.
+use denote.Ref.{now}
+use Rattle.host.specs.Calls.{toldOf}
+use Rattle.host.proofs.Telling.{check-short, check-called}
+use borrow.Author.Needs.{needs}
+use Rattle.host.proofs.bezowik_check.Statement.{statement}
+use Rattle.host.proofs.bezowik_check.Tie as tie
+
+returns : tie.Need-returns
+returns c =
+    let a = c .before .before .before .before .before .before .args in
+    check-short (now (a .set)) (c .if1 .taken) (now (a .row-file)) (now (a .byte-file)) (now (a .workspace))
+
+check-requires : tie.Need-check-requires
+check-requires c κs = search needs
+
+from-tabled-requires : tie.Need-from-tabled-requires
+from-tabled-requires c κs = search needs
+
+write-requires : tie.Need-write-requires
+write-requires c κs = search needs
+
+same-length : tie.Need-same-length
+same-length c = search needs
+
+same-length-2 : tie.Need-same-length-2
+same-length-2 c = search needs
+
+returns-2 : tie.Need-returns-2
+returns-2 c =
+    let written = c .before .before in
+    let told = written .before .before in
+    let checked = told .before .before .before in
+    let other = checked .before .before in
+    let a = other .before .before .before .before .before .before .args in
+    check-called (now (a .set)) (other .if1 .left) (toldOf (told .from-tabled .result)) (told .from-tabled .ensures)
+    (written .write .ensures)
+    (checked .check .ensures)
+
+pub bezowik-check-spec : {M : Type 1} → statement M
+bezowik-check-spec =
+    tie.close
+    (tie.spec
+    returns
+    check-requires
+    from-tabled-requires
+    write-requires
+    same-length
+    same-length-2
+    returns-2)
