@@ -10,3 +10,4 @@ pub mod Spelling
 pub mod Building
 pub mod Laying
 pub mod Admissions
+pub mod Admitted

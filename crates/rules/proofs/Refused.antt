@@ -5,10 +5,11 @@ use mathlib.Core.Bool.{Bool, true, false}
 use mathlib.Core.List.{List, [], _++_, _∷_}
 use lib.ListN.{length, take, drop}
 use native.Mathlib.Omega.{arith}
-use Rattle.rules.specs.Limits.{recordSize}
+use Rattle.rules.specs.Limits.{recordSize, rowRecord, byteFileSize}
 use Rattle.rules.specs.Sets.{Keyword, keywordOf}
 use Rattle.rules.specs.Rows.{Way}
-use Rattle.rules.specs.Refusals.{Verdict, pass, refuse, refuseIf, orElse, recordVerdict, recordVerdicts, fileVerdict, rowsVerdict, setVerdict, traceVerdict, workspaceVerdict}
+use Rattle.rules.specs.Skips.{suffixRows}
+use Rattle.rules.specs.Refusals.{Verdict, pass, refuse, refuseIf, orElse, recordVerdict, recordVerdicts, fileVerdict, rowsVerdict, setVerdict, traceVerdict, workspaceVerdict, rowVerdicts, farVerdicts, tableVerdict}
 
 abbrev pub Numbered : Verdict → Type 0
 Numbered v = (p : ℕ) → v ≡ refuse 0 p → ⊥
@@ -58,3 +59,23 @@ numbered-trace t = numbered-if _ 8 0 (omega arith)
 pub numbered-workspace : (way : Way) (s : List ℕ) (room : ℕ) → Numbered (workspaceVerdict way s room)
 unfolding workspaceVerdict
 numbered-workspace way s room = numbered-if _ 9 _ (omega arith)
+
+-- the tests of a table
+numbered-rows : (ks : List Keyword) (i : ℕ) (vs : List (List ℕ)) (f : List ℕ) → Numbered (rowVerdicts ks i vs f)
+unfolding rowVerdicts
+numbered-rows ks i [] f = numbered-pass
+numbered-rows ks i (v ∷ vs) f =
+    numbered-both _ _ (numbered-if _ 11 i (omega arith))
+    (numbered-both _ _ (numbered-if _ 12 i (omega arith)) (numbered-rows ks (suc i) vs (drop rowRecord f)))
+
+numbered-fars : (ks : List Keyword) (n p : ℕ) (f : List ℕ) → Numbered (farVerdicts ks n p f)
+unfolding farVerdicts
+numbered-fars ks zero p f = numbered-pass
+numbered-fars ks (suc n) p f = numbered-both _ _ (numbered-if _ 14 p (omega arith)) (numbered-fars ks n (suc p) (drop 1 f))
+
+pub numbered-table : (ks : List Keyword) (rowf bytef : List ℕ) → Numbered (tableVerdict ks rowf bytef)
+unfolding tableVerdict
+numbered-table ks rowf bytef =
+    numbered-both _ _ (numbered-if _ 10 _ (omega arith))
+    (numbered-both _ _ (numbered-rows ks 0 (suffixRows ks) rowf)
+    (numbered-both _ _ (numbered-if _ 13 0 (omega arith)) (numbered-fars ks byteFileSize 0 bytef)))

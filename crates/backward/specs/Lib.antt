@@ -1,0 +1,2 @@
+-- What the windows of a backward scan have found.
+pub mod Windowed
