@@ -12,10 +12,10 @@ use Rattle.rules.specs.Rows.{forward}
 use Rattle.rules.specs.Hits.{over}
 use Rattle.rules.specs.Refusals.{pass, refuse, refuseIf, orElse, setVerdict, traceVerdict, workspaceVerdict, answerVerdict}
 use Rattle.rules.specs.Answers.{Told, answerBytes}
-use Rattle.rules.specs.Promises.{onPass, kept, answerOr, Forward, forwardTold, forwardVerdict, Make, Check, hostVerdict, hostTold, Host}
+use Rattle.rules.specs.Promises.{onPass, kept, answerOr, Forward, forwardTold, forwardVerdict, Backward, Make, Check, hostVerdict, hostTold, Host}
 use Rattle.rules.proofs.Verdicts.{verdict-cases, refuse-orElse, pass-orElse, orElse-right, refuseIf-true, refuseIf-false}
 use Rattle.rules.proofs.Sets.{set-passed}
-use Rattle.host.specs.Calls.{Telling, ForwardCall, MakeCall, CheckCall}
+use Rattle.host.specs.Calls.{Telling, ForwardCall, BackwardCall, MakeCall, CheckCall}
 
 -- a short buffer is refused and left as it was
 pub host-short : (s t answer : List ℕ) → length answer < answerSize → Host s t answer 17 answer
@@ -68,6 +68,9 @@ module _ (s : List ℕ) {answer : List ℕ} where
     pub forward-short : (t ws hs : List ℕ) → ForwardCall s t ws hs answer 17 ws hs answer
     forward-short t ws hs = record { short = λ h. (refl, refl, refl, refl); called = λ h. absurd (omega arith) }
 
+    pub backward-short : (t rowf bytef ws hs : List ℕ) → BackwardCall s t rowf bytef ws hs answer 17 ws hs answer
+    backward-short t rowf bytef ws hs = record { short = λ h. (refl, refl, refl, refl); called = λ h. absurd (omega arith) }
+
     pub make-short : (ws rowb byteb : List ℕ) → MakeCall s ws rowb byteb answer 17 ws rowb byteb answer
     make-short ws rowb byteb = record { short = λ h. (refl, refl, refl, refl, refl); called = λ h. absurd (omega arith) }
 
@@ -78,6 +81,15 @@ module _ (s : List ℕ) {answer : List ℕ} where
     pub forward-called : {t ws hs ws′ hs′ : List ℕ} → Forward s t ws hs b ws′ hs′ → ForwardCall s t ws hs answer (a .number) ws′ hs′ answer′
     forward-called {t} {ws} {hs} {ws′} {hs′} promise =
         record { short = λ h. absurd (omega arith); called = λ h. telling (λ (x : Told). Forward s t ws hs x ws′ hs′) a b promise same written }
+
+    pub backward-called : {t rowf bytef ws hs ws′ hs′ : List ℕ}
+        → Backward s t rowf bytef ws hs b ws′ hs′
+        → BackwardCall s t rowf bytef ws hs answer (a .number) ws′ hs′ answer′
+    backward-called {t} {rowf} {bytef} {ws} {hs} {ws′} {hs′} promise =
+        record {
+          short = λ h. absurd (omega arith);
+          called = λ h. telling (λ (x : Told). Backward s t rowf bytef ws hs x ws′ hs′) a b promise same written;
+        }
 
     pub make-called : {ws rowb byteb ws′ rowb′ byteb′ : List ℕ}
         → Make s ws rowb byteb b ws′ rowb′ byteb′

@@ -6,7 +6,7 @@ use lib.ListN.{length}
 use Rattle.rules.specs.Limits.{answerSize}
 use Rattle.rules.specs.Hits.{over}
 use Rattle.rules.specs.Answers.{Told, answerBytes}
-use Rattle.rules.specs.Promises.{Forward, Make, Check}
+use Rattle.rules.specs.Promises.{Forward, Backward, Make, Check}
 use Rattle.host.specs.declared.answer.Answer.{Answer}
 
 -- an answer's value in document 01's numbers
@@ -23,6 +23,11 @@ pub record Telling (answer : List ℕ) (a : Told) (result : ℕ) (answer′ : Li
 pub record ForwardCall (s t ws hs answer : List ℕ) (result : ℕ) (ws′ hs′ answer′ : List ℕ) : Type 0 where
   pub short : length answer < answerSize → (result ≡ 17) × (ws′ ≡ ws) × (hs′ ≡ hs) × (answer′ ≡ answer)
   pub called : answerSize ≤ length answer → (a : Told) × Forward s t ws hs a ws′ hs′ × Telling answer a result answer′
+
+-- the backward scan
+pub record BackwardCall (s t rowf bytef ws hs answer : List ℕ) (result : ℕ) (ws′ hs′ answer′ : List ℕ) : Type 0 where
+  pub short : length answer < answerSize → (result ≡ 17) × (ws′ ≡ ws) × (hs′ ≡ hs) × (answer′ ≡ answer)
+  pub called : answerSize ≤ length answer → (a : Told) × Backward s t rowf bytef ws hs a ws′ hs′ × Telling answer a result answer′
 
 -- making
 pub record MakeCall (s ws rowb byteb answer : List ℕ) (result : ℕ) (ws′ rowb′ byteb′ answer′ : List ℕ) : Type 0 where

@@ -4,12 +4,13 @@ pub mod answer; // answer.rt: an answer in its twenty bytes
 use crate::answer::from_scanned;
 use crate::answer::from_tabled;
 use crate::answer::write;
+use backward::scan as scan_backward;
 use forward::scan;
 use skips::check;
 use skips::make;
 ghost use Prim.Native.Nat.{ℕ};
 ghost use Rattle.rules.specs.Promises.{Host};
-ghost use Rattle.host.specs.Calls.{ForwardCall, MakeCall, CheckCall};
+ghost use Rattle.host.specs.Calls.{ForwardCall, BackwardCall, MakeCall, CheckCall};
 
 // The cost of a trace: the forward scan's count, questions and energy, in an answer of twenty bytes. The result is the refusal's number, or 0.
 #[no_mangle]
@@ -41,6 +42,27 @@ pub extern "C" fn bezowik_forward(
         return 17;
     }
     let found = from_scanned(scan(set, trace, workspace, hits));
+    write(answer, found);
+    found.number
+}
+
+// The backward scan under a lent table, which is checked at each call.
+#[no_mangle]
+pub extern "C" fn bezowik_backward(
+    set: &[u8],
+    trace: &[u8],
+    row_file: &[u8],
+    byte_file: &[u8],
+    workspace: &mut [u16],
+    hits: &mut [u32],
+    answer: &mut [u8],
+) -> u16
+    ensures { λ r. ⌜ BackwardCall (now (set .entry)) (now (trace .entry)) (now («row_file» .entry)) (now («byte_file» .entry)) (now (workspace .entry)) (now (hits .entry)) (now (answer .entry)) r (now (workspace .exit)) (now (hits .exit)) (now (answer .exit)) ⌝ }
+{
+    if answer.len() < 20 {
+        return 17;
+    }
+    let found = from_scanned(scan_backward(set, trace, row_file, byte_file, workspace, hits));
     write(answer, found);
     found.number
 }

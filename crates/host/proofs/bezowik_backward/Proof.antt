@@ -1,0 +1,54 @@
+-- The backward scan, told in twenty bytes.
+use denote.Ref.{now}
+use Rattle.host.specs.Calls.{toldOf}
+use Rattle.host.proofs.Telling.{backward-short, backward-called}
+use borrow.Author.Needs.{needs}
+use Rattle.host.proofs.bezowik_backward.Statement.{statement}
+use Rattle.host.proofs.bezowik_backward.Tie as tie
+
+returns : tie.Need-returns
+returns c =
+    let a = c .before .before .before .before .before .before .before .before .args in
+    backward-short (now (a .set)) (c .if1 .taken) (now (a .trace)) (now (a .row-file)) (now (a .byte-file)) (now (a .workspace)) (now (a .hits))
+
+scan-requires : tie.Need-scan-requires
+scan-requires c κs = search needs
+
+from-scanned-requires : tie.Need-from-scanned-requires
+from-scanned-requires c κs = search needs
+
+write-requires : tie.Need-write-requires
+write-requires c κs = search needs
+
+same-length : tie.Need-same-length
+same-length c = search needs
+
+same-length-2 : tie.Need-same-length-2
+same-length-2 c = search needs
+
+same-length-3 : tie.Need-same-length-3
+same-length-3 c = search needs
+
+returns-2 : tie.Need-returns-2
+returns-2 c =
+    let written = c .before .before in
+    let told = written .before .before in
+    let scanned = told .before .before .before .before .before in
+    let other = scanned .before .before .before in
+    let a = other .before .before .before .before .before .before .before .before .args in
+    backward-called (now (a .set)) (other .if1 .left) (toldOf (told .from-scanned .result)) (told .from-scanned .ensures)
+    (written .write .ensures)
+    (scanned .scan .ensures)
+
+pub bezowik-backward-spec : {M : Type 1} → statement M
+bezowik-backward-spec =
+    tie.close
+    (tie.spec
+    returns
+    scan-requires
+    from-scanned-requires
+    write-requires
+    same-length
+    same-length-2
+    same-length-3
+    returns-2)
