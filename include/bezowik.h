@@ -45,10 +45,14 @@ enum bezowik_refusal {
     BEZOWIK_ANSWER_SHORT = 17       /* an answer buffer under 20 bytes; nothing is written */
 };
 
-/* Bytes of an answer, numbers of a workspace that is enough for every set, bytes of a keyword's record. */
+/* Bytes of an answer, numbers of a workspace that is enough for every set, bytes of a keyword's record, and of a skip table: bytes of a row's record, the
+ * most rows, and bytes of the byte file. */
 #define BEZOWIK_ANSWER 20
 #define BEZOWIK_WORKSPACE 5766
 #define BEZOWIK_RECORD 18
+#define BEZOWIK_ROW 18
+#define BEZOWIK_ROWS 961
+#define BEZOWIK_BYTES 4096
 
 /* The cost of a trace: the forward scan, for a caller that wants no list. Writes the first 20 bytes of the answer on every outcome
  * but BEZOWIK_ANSWER_SHORT, and no byte beyond. */
@@ -63,6 +67,31 @@ uint16_t bezowik_forward(const uint8_t *set, size_t set_bytes,
                          uint16_t *workspace, size_t workspace_numbers,
                          uint32_t *hits, size_t hit_numbers,
                          uint8_t *answer, size_t answer_bytes);
+
+/* The backward scan under a skip table, which is checked at each call. After refusals 10 to 14 the workspace holds the set's backward rows and
+ * hits is unchanged. Its hits, count and energy are the forward scan's; its questions are those of its own run. */
+uint16_t bezowik_backward(const uint8_t *set, size_t set_bytes,
+                          const uint8_t *trace, size_t trace_bytes,
+                          const uint8_t *row_file, size_t row_bytes,
+                          const uint8_t *byte_file, size_t byte_bytes,
+                          uint16_t *workspace, size_t workspace_numbers,
+                          uint32_t *hits, size_t hit_numbers,
+                          uint8_t *answer, size_t answer_bytes);
+
+/* Making a skip table: the largest safe numbers at the front of two buffers, BEZOWIK_ROW bytes a row and BEZOWIK_BYTES bytes. The answer has the number of rows
+ * in the place of the count. After refusals 15 and 16 the workspace holds the backward rows and no other buffer has changed. */
+uint16_t bezowik_make(const uint8_t *set, size_t set_bytes,
+                      uint16_t *workspace, size_t workspace_numbers,
+                      uint8_t *row_buffer, size_t row_bytes,
+                      uint8_t *byte_buffer, size_t byte_bytes,
+                      uint8_t *answer, size_t answer_bytes);
+
+/* The check of a skip table: accepted exactly when it is safe for the set. The answer has the number of rows in the place of the count. */
+uint16_t bezowik_check(const uint8_t *set, size_t set_bytes,
+                       const uint8_t *row_file, size_t row_bytes,
+                       const uint8_t *byte_file, size_t byte_bytes,
+                       uint16_t *workspace, size_t workspace_numbers,
+                       uint8_t *answer, size_t answer_bytes);
 
 /* The fields of an answer: number and place of a refusal, and the count, questions and energy of a scan (0 on a refusal). */
 static inline uint16_t bezowik_number(const uint8_t *answer)

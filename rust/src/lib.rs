@@ -4,10 +4,13 @@ pub mod measure;
 pub mod random;
 pub mod slow;
 
-/// The bytes of an answer, the numbers of a workspace that is enough for every set, and the bytes of a keyword's record.
+/// The bytes of an answer, the numbers of a workspace that is enough for every set, the bytes of a keyword's record and of a row's, and those of
+/// a byte file.
 pub const ANSWER: usize = 20;
 pub const WORKSPACE: usize = 6 * 961;
 pub const RECORD: usize = 18;
+pub const ROW: usize = 18;
+pub const BYTES: usize = 4096;
 
 /// What a call answers, in document 01's numbers. Number 0 is no refusal.
 #[derive(Clone, Copy, Debug, Default, PartialEq, Eq)]
@@ -65,6 +68,46 @@ mod c {
             answer: *mut u8,
             answer_bytes: usize,
         ) -> u16;
+        pub fn bezowik_backward(
+            set: *const u8,
+            set_bytes: usize,
+            trace: *const u8,
+            trace_bytes: usize,
+            row_file: *const u8,
+            row_bytes: usize,
+            byte_file: *const u8,
+            byte_bytes: usize,
+            workspace: *mut u16,
+            workspace_numbers: usize,
+            hits: *mut u32,
+            hit_numbers: usize,
+            answer: *mut u8,
+            answer_bytes: usize,
+        ) -> u16;
+        pub fn bezowik_make(
+            set: *const u8,
+            set_bytes: usize,
+            workspace: *mut u16,
+            workspace_numbers: usize,
+            row_buffer: *mut u8,
+            row_bytes: usize,
+            byte_buffer: *mut u8,
+            byte_bytes: usize,
+            answer: *mut u8,
+            answer_bytes: usize,
+        ) -> u16;
+        pub fn bezowik_check(
+            set: *const u8,
+            set_bytes: usize,
+            row_file: *const u8,
+            row_bytes: usize,
+            byte_file: *const u8,
+            byte_bytes: usize,
+            workspace: *mut u16,
+            workspace_numbers: usize,
+            answer: *mut u8,
+            answer_bytes: usize,
+        ) -> u16;
     }
 }
 
@@ -102,5 +145,97 @@ pub fn forward_into(set: &[u8], trace: &[u8], workspace: &mut [u16], hits: &mut 
 pub fn forward(set: &[u8], trace: &[u8], workspace: &mut [u16], hits: &mut [u32]) -> Answer {
     let mut bytes = [0; ANSWER];
     forward_into(set, trace, workspace, hits, &mut bytes);
+    Answer::from_bytes(&bytes)
+}
+
+/// The bench group's backward scan: its result, and every buffer as it is lent.
+pub fn backward_into(set: &[u8], trace: &[u8], table: &Table, workspace: &mut [u16], hits: &mut [u32], answer: &mut [u8]) -> u16 {
+    unsafe {
+        c::bezowik_backward(
+            set.as_ptr(),
+            set.len(),
+            trace.as_ptr(),
+            trace.len(),
+            table.rows.as_ptr(),
+            table.rows.len(),
+            table.bytes.as_ptr(),
+            table.bytes.len(),
+            workspace.as_mut_ptr(),
+            workspace.len(),
+            hits.as_mut_ptr(),
+            hits.len(),
+            answer.as_mut_ptr(),
+            answer.len(),
+        )
+    }
+}
+
+/// The backward scan under a table, which is checked at each call.
+pub fn backward(set: &[u8], trace: &[u8], table: &Table, workspace: &mut [u16], hits: &mut [u32]) -> Answer {
+    let mut bytes = [0; ANSWER];
+    backward_into(set, trace, table, workspace, hits, &mut bytes);
+    Answer::from_bytes(&bytes)
+}
+
+/// A skip table: the row file and the byte file.
+#[derive(Clone, Debug, Default, PartialEq, Eq)]
+pub struct Table {
+    pub rows: Vec<u8>,
+    pub bytes: Vec<u8>,
+}
+
+/// The bench group's making: its result, and every buffer as it is lent.
+pub fn make_into(set: &[u8], workspace: &mut [u16], row_buffer: &mut [u8], byte_buffer: &mut [u8], answer: &mut [u8]) -> u16 {
+    unsafe {
+        c::bezowik_make(
+            set.as_ptr(),
+            set.len(),
+            workspace.as_mut_ptr(),
+            workspace.len(),
+            row_buffer.as_mut_ptr(),
+            row_buffer.len(),
+            byte_buffer.as_mut_ptr(),
+            byte_buffer.len(),
+            answer.as_mut_ptr(),
+            answer.len(),
+        )
+    }
+}
+
+/// The table with the largest safe numbers, or the refusal of the set.
+pub fn make(set: &[u8]) -> Result<Table, Answer> {
+    let mut table = Table { rows: vec![0; ROW * 961], bytes: vec![0; BYTES] };
+    let mut bytes = [0; ANSWER];
+    make_into(set, &mut vec![0; WORKSPACE], &mut table.rows, &mut table.bytes, &mut bytes);
+    let made = Answer::from_bytes(&bytes);
+    if made.number != 0 {
+        return Err(made);
+    }
+    table.rows.truncate(ROW * made.count as usize);
+    Ok(table)
+}
+
+/// The bench group's check: its result, and every buffer as it is lent.
+pub fn check_into(set: &[u8], table: &Table, workspace: &mut [u16], answer: &mut [u8]) -> u16 {
+    unsafe {
+        c::bezowik_check(
+            set.as_ptr(),
+            set.len(),
+            table.rows.as_ptr(),
+            table.rows.len(),
+            table.bytes.as_ptr(),
+            table.bytes.len(),
+            workspace.as_mut_ptr(),
+            workspace.len(),
+            answer.as_mut_ptr(),
+            answer.len(),
+        )
+    }
+}
+
+/// The check of a table: number 0 and the rows as the count, or the refusal.
+pub fn check(set: &[u8], table: &Table) -> Answer {
+    let mut bytes = [0; ANSWER];
+    check_into(set, table, &mut vec![0; WORKSPACE], &mut bytes);
     Answer::from_bytes(&bytes)
 }

@@ -1,6 +1,6 @@
 //! The slow count: each job as document 01 words it, with neither failures nor skips to be quick by. What the library answers is compared with it.
 
-use crate::{Answer, RECORD};
+use crate::{Answer, Table, BYTES, RECORD, ROW};
 
 /// A keyword as its record states it.
 #[derive(Clone, Debug, PartialEq, Eq)]
@@ -192,4 +192,154 @@ pub fn cost_into(set: &[u8], trace: &[u8], answer: &mut [u8]) -> u16 {
     let found = forward(set, trace, &mut vec![0; crate::WORKSPACE], &mut []);
     over(answer, &found.to_bytes());
     found.number
+}
+
+/// The shortest keyword's length.
+fn shortest(keywords: &[Keyword]) -> usize {
+    keywords.iter().map(|k| k.word.len()).min().unwrap_or(0)
+}
+
+/// The least n from 1 up that passes, capped at the shortest keyword's length.
+fn least(keywords: &[Keyword], passes: impl Fn(usize, &[u8]) -> bool) -> u8 {
+    let m = shortest(keywords);
+    (1..m).find(|&n| keywords.iter().any(|k| passes(n, &k.word))).unwrap_or(m) as u8
+}
+
+/// Some keyword has v with exactly n bytes after it.
+pub fn inner(keywords: &[Keyword], v: &[u8]) -> u8 {
+    least(keywords, |n, w| n <= w.len() && w[..w.len() - n].ends_with(v))
+}
+
+/// Some string made of v and n further bytes ends with a keyword.
+pub fn edge(keywords: &[Keyword], v: &[u8]) -> u8 {
+    least(keywords, |n, w| w.len() <= n || v.ends_with(&w[..w.len() - n]))
+}
+
+/// Some keyword holds a with exactly z + n bytes after it.
+pub fn far(keywords: &[Keyword], a: u8, z: usize) -> u8 {
+    least(keywords, |n, w| z + n < w.len() && w[w.len() - 1 - z - n] == a)
+}
+
+/// A row's suffix in its sixteen places.
+fn named(v: &[u8]) -> Vec<u8> {
+    let mut record = vec![v.len() as u8];
+    record.extend_from_slice(v);
+    record.resize(16, 0);
+    record
+}
+
+/// The table with the largest numbers.
+pub fn table(keywords: &[Keyword]) -> Table {
+    let rows = rows(keywords, Way::Backward)
+        .iter()
+        .flat_map(|v| [named(v), vec![inner(keywords, v), edge(keywords, v)]].concat())
+        .collect();
+    let bytes = (0..BYTES).map(|p| far(keywords, (p / 16) as u8, p % 16)).collect();
+    Table { rows, bytes }
+}
+
+/// The tests 10 to 14: the first fault of a table.
+pub fn fault(keywords: &[Keyword], lent: &Table) -> Option<Answer> {
+    let largest = table(keywords);
+    let faulty = |n: u8, most: u8| n == 0 || n > most;
+    if lent.rows.len() != largest.rows.len() {
+        return Some(Answer::refused(10, largest.rows.len() / ROW));
+    }
+    for (i, (f, most)) in lent.rows.chunks(ROW).zip(largest.rows.chunks(ROW)).enumerate() {
+        if f[..16] != most[..16] {
+            return Some(Answer::refused(11, i));
+        }
+        if faulty(f[16], most[16]) || faulty(f[17], most[17]) {
+            return Some(Answer::refused(12, i));
+        }
+    }
+    if lent.bytes.len() != BYTES {
+        return Some(Answer::refused(13, 0));
+    }
+    (0..BYTES).find(|&p| faulty(lent.bytes[p], largest.bytes[p])).map(|p| Answer::refused(14, p))
+}
+
+/// What making and the check answer where they do not refuse.
+fn counted(keywords: &[Keyword]) -> Answer {
+    Answer { count: rows(keywords, Way::Backward).len() as u32, ..Answer::default() }
+}
+
+/// Making, with every lent buffer.
+pub fn make(set: &[u8], workspace: &mut [u16], row_buffer: &mut [u8], byte_buffer: &mut [u8]) -> Answer {
+    let keywords = match keywords(set, Way::Backward) {
+        Ok(keywords) => keywords,
+        Err(refusal) => return refusal,
+    };
+    if let Some(refusal) = room(&keywords, Way::Backward, 0, workspace.len()) {
+        return refusal;
+    }
+    over(workspace, &cells(&keywords, Way::Backward));
+    let rows = rows(&keywords, Way::Backward).len();
+    if row_buffer.len() < ROW * rows {
+        return Answer::refused(15, rows);
+    }
+    if byte_buffer.len() < BYTES {
+        return Answer::refused(16, 0);
+    }
+    let made = table(&keywords);
+    over(row_buffer, &made.rows);
+    over(byte_buffer, &made.bytes);
+    counted(&keywords)
+}
+
+/// The check, with every lent buffer.
+pub fn check(set: &[u8], lent: &Table, workspace: &mut [u16]) -> Answer {
+    let keywords = match keywords(set, Way::Backward) {
+        Ok(keywords) => keywords,
+        Err(refusal) => return refusal,
+    };
+    if let Some(refusal) = room(&keywords, Way::Backward, 0, workspace.len()) {
+        return refusal;
+    }
+    over(workspace, &cells(&keywords, Way::Backward));
+    fault(&keywords, lent).unwrap_or_else(|| counted(&keywords))
+}
+
+/// The questions of the backward scan as document 01 runs it, by the numbers of the lent files.
+pub fn run_questions(keywords: &[Keyword], trace: &[u8], lent: &Table) -> u32 {
+    let rows = rows(keywords, Way::Backward);
+    let mut asked = 0;
+    let mut end = lent.rows[17] as usize;
+    while end <= trace.len() {
+        let mut depth = 0;
+        let mut missing = None;
+        while depth < end {
+            asked += 1;
+            if !rows.iter().any(|r| r[..] == trace[end - depth - 1..end]) {
+                missing = Some(trace[end - depth - 1]);
+                break;
+            }
+            depth += 1;
+        }
+        let row = rows.iter().position(|r| r[..] == trace[end - depth..end]).expect("what was read is a row");
+        let (inner, edge) = (lent.rows[ROW * row + 16], lent.rows[ROW * row + 17]);
+        end += match missing {
+            None => edge,
+            Some(c) => edge.min(inner.max(lent.bytes[16 * c as usize + depth])),
+        } as usize;
+    }
+    asked
+}
+
+/// The backward scan, with every lent buffer.
+pub fn backward(set: &[u8], trace: &[u8], lent: &Table, workspace: &mut [u16], buffer: &mut [u32]) -> Answer {
+    let keywords = match keywords(set, Way::Backward) {
+        Ok(keywords) => keywords,
+        Err(refusal) => return refusal,
+    };
+    if let Some(refusal) = room(&keywords, Way::Backward, trace.len(), workspace.len()) {
+        return refusal;
+    }
+    over(workspace, &cells(&keywords, Way::Backward));
+    if let Some(refusal) = fault(&keywords, lent) {
+        return refusal;
+    }
+    let hits = hits(&keywords, trace);
+    list(&hits, buffer);
+    found(&keywords, &hits, run_questions(&keywords, trace, lent))
 }
