@@ -10,7 +10,7 @@ use lib.ListN.{length, take, getD, set, length-append, length-take, length-set}
 use lib.Seq.{take-suc, take-suc-set, getD-set-same, getD-set-other}
 use lib.Dec.{eqb}
 use borrow.Author.Tests.{eqb-true, eqb-false}
-use Rattle.rules.specs.Limits.{longestWord, rowCells, opcodes}
+use Rattle.rules.specs.Limits.{longestWord, longestTrace, rowCells, opcodes}
 use Rattle.rules.specs.Strings.{same, any}
 use Rattle.rules.specs.Sets.{Keyword, keywords, keywordAt, keywordsThatAre}
 use Rattle.rules.specs.Rows.{backward, readBy, prefixes, rowsOf, rowOf, keyOf}
@@ -37,27 +37,34 @@ pub record Kept (s read keys : List ℕ) (met : ℕ) : Type 0 where
   pub known : (j : ℕ) → j < met → getD keys j 0 < length (keywords s)
   pub are : entered (keywords s) (record { read = read; stop = start }) ≡ map (keywordAt s) (reverse (take met keys))
 
--- The window at `end`, with the bytes before `left` still to be read: it began with `begun` questions asked.
+-- The window at `end`, with the bytes before `left` still to be read: it began with `begun` questions asked, which are few.
 pub record Reached (s t : List ℕ) (end begun questions : ℕ) (keys : List ℕ) (met absent left row : ℕ) : Type 0 where
   pub read : List ℕ
   pub is : any (same read) (rowsIn s) ≡ true
   pub number : row ≡ rowOf (rowsIn s) read
   pub goes : windowAt (rowsIn s) t end ≡ windowFrom (rowsIn s) read (reverse (take left t))
   pub depth : length read + left ≡ end
+  pub short : length read ≤ longestWord
+  pub few : begun ≤ suc longestWord * longestTrace
   pub counted : questions ≡ begun + length read
   pub byte : absent < opcodes
   pub kept : Kept s read keys met
 
 -- before the first byte
-pub reached-none : (s t : List ℕ) (end begun : ℕ) (keys : List ℕ) → length keys ≡ longestWord → Reached s t end begun begun keys 0 0 end 0
+pub reached-none : (s t : List ℕ) (end begun : ℕ) (keys : List ℕ)
+    → length keys ≡ longestWord
+    → begun ≤ suc longestWord * longestTrace
+    → Reached s t end begun begun keys 0 0 end 0
 unfolding windowAt entered prefixes flatMap
-reached-none s t end begun keys long =
+reached-none s t end begun keys long few =
     record {
       read = [];
       is = root-row (rowed-rows backward (keywords s));
       number = sym (rowOf-nil (rowed-rows backward (keywords s)));
       goes = refl;
       depth = omega arith;
+      short = omega arith;
+      few = few;
       counted = omega arith;
       byte = omega arith;
       kept = record { long = long; fits = omega arith; known = λ j h. absurd (omega arith); are = refl };
@@ -114,9 +121,6 @@ module _ {s t rowf bytef ws : List ℕ} (prepared : Prepared s t rowf bytef ws)
   reads : getD (rowsIn s) row [] ≡ reached .read
   reads = rw (reached .number) (rowOf-is (rowsIn s) (reached .read) (reached .is) .1)
 
-  pub reached-short : length (reached .read) ≤ longestWord
-  reached-short = row-short backward (prepared .sound) (reached .read) (reached .is)
-
   module _ (inside : end ≤ length t) (some : left ≡ 0 → ⊥) {r : Asked} (answered : Answered (rowsIn s) (getD (rowsIn s) row []) (getD t (left - 1) 0) r) where
     before : windowAt (rowsIn s) t end ≡ windowFrom (rowsIn s) (reached .read) (getD t (left - 1) 0 ∷ reverse (take (left - 1) t))
     before = reached .goes ∙ ap (windowFrom (rowsIn s) (reached .read)) (before-last t left some (omega (arith, reached .depth)))
@@ -135,15 +139,12 @@ module _ {s t rowf bytef ws : List ℕ} (prepared : Prepared s t rowf bytef ws)
       key-is : getD ws (rowCells * r .child + 4) 0 ≡ keyOf backward (keywords s) (reached .read ++ (getD t (left - 1) 0 ∷ []))
       key-is = prepared .laid .keys (r .child) (child .0) ∙ ap (keyOf backward (keywords s)) (child .1)
 
+      child-short : length (reached .read ++ (getD t (left - 1) 0 ∷ [])) ≤ longestWord
+      child-short = row-short backward (prepared .sound) (reached .read ++ (getD t (left - 1) 0 ∷ [])) (child .2)
+
       -- there is a place for one more number
       pub child-free : met < longestWord
-      child-free =
-          omega (
-            arith,
-            reached .kept .fits,
-            row-short backward (prepared .sound) (reached .read ++ (getD t (left - 1) 0 ∷ [])) (child .2),
-            length-append (reached .read) (getD t (left - 1) 0 ∷ []),
-          )
+      child-free = omega (arith, reached .kept .fits, child-short, length-append (reached .read) (getD t (left - 1) 0 ∷ []))
 
       grown : getD t (left - 1) 0 < opcodes → {keys′ : List ℕ} {met′ : ℕ}
           → Kept s (reached .read ++ (getD t (left - 1) 0 ∷ [])) keys′ met′
@@ -155,6 +156,8 @@ module _ {s t rowf bytef ws : List ℕ} (prepared : Prepared s t rowf bytef ws)
             number = answer .child;
             goes = before ∙ window-more (rowsIn s) (reached .read) (getD t (left - 1) 0) (reverse (take (left - 1) t)) (child .2);
             depth = omega (arith, reached .depth, length-append (reached .read) (getD t (left - 1) 0 ∷ []));
+            short = child-short;
+            few = reached .few;
             counted = omega (arith, reached .counted, length-append (reached .read) (getD t (left - 1) 0 ∷ []));
             byte = small;
             kept = kept;

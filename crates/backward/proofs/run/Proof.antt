@@ -10,7 +10,7 @@ use borrow.Author.Needs.{needs}
 use Rattle.rules.specs.Limits.{opcodes}
 use Rattle.rows.specs.Tree.{Answered}
 use Rattle.backward.specs.Windowed.{Prepared, Closing, moveIn}
-use Rattle.backward.proofs.Reached.{rowsIn, Reached, Stopped, reached-none, reached-within, reached-short, child-room, child-free, reached-more, reached-key, stopped-start, stopped-missing}
+use Rattle.backward.proofs.Reached.{rowsIn, Reached, Stopped, reached-none, reached-within, child-room, child-free, reached-more, reached-key, stopped-start, stopped-missing}
 use Rattle.backward.proofs.Visits.{Running, first-room, running-none, running-few, running-length, running-all, running-more, window-closing, window-moving, window-some}
 use Rattle.backward.proofs.run.Statement.{statement}
 use Rattle.backward.proofs.run.Tie as tie
@@ -59,6 +59,7 @@ bytes-holds : tie.Need-bytes-holds Inv-bytes μ-bytes Inv-loop μ-loop
 bytes-holds c =
     let a = c .before .before .before .before .before .before .before .before .before .before .before .args in
     reached-none (now (a .set)) (now (a .trace)) (c .before .loop .end) (c .before .loop .questions) (c .before .loop .keys) (c .before .loop .inv .long)
+    (running-few (prepared (c .before)) (c .before .loop .inv))
 
 sub-wide : tie.Need-sub-wide Inv-bytes μ-bytes Inv-loop μ-loop
 sub-wide c = omega arith
@@ -70,10 +71,7 @@ wide-requires-2 : tie.Need-wide-requires-2 Inv-bytes μ-bytes Inv-loop μ-loop
 wide-requires-2 c κs = search needs
 
 add-questions : tie.Need-add-questions Inv-bytes μ-bytes Inv-loop μ-loop
-add-questions c =
-    let b = c .before .before .before in
-    let l = b .before .before in
-    omega (arith, b .bytes .inv .counted, running-few (prepared l) (l .loop .inv), reached-short (prepared l) (b .bytes .inv))
+add-questions c = omega arith
 
 cast-ask : tie.Need-cast-ask Inv-bytes μ-bytes Inv-loop μ-loop
 cast-ask c = omega (arith, c .wide2 .ensures .1)
