@@ -75,7 +75,7 @@ pub fn nanoseconds(mut call: impl FnMut()) -> f64 {
     least
 }
 
-/// Prints the table: the forward scan's nanoseconds a byte, and how many times that each other one takes.
+/// Prints the first table: the forward scan's nanoseconds a byte, and how many times that each other one takes.
 pub fn forward_table(peers: &[Peer]) {
     let mut random = Random::new(64);
     let words = words(&mut random, 4);
@@ -115,7 +115,7 @@ pub fn forward_table(peers: &[Peer]) {
     }
     for peer in peers {
         let took = nanoseconds(|| {
-            black_box((peer.ready)(black_box(&words), black_box(&energies)));
+            drop(black_box((peer.ready)(black_box(&words), black_box(&energies))));
         });
         println!("{} is made ready in {:.0} us, which is not in the table", peer.name, took / 1e3);
     }
@@ -123,4 +123,40 @@ pub fn forward_table(peers: &[Peer]) {
         black_box(crate::forward(black_box(&set), &[], &mut workspace, &mut hits));
     });
     println!("a forward scan of no bytes, which tests the set and lays its rows, takes {:.0} us: it is in the table", empty / 1e3);
+}
+
+/// Prints the second table: the backward scan beside the forward scan, by the shortest keyword's length.
+pub fn backward_table() {
+    let n = 1 << 20;
+    let mut workspace = vec![0u16; WORKSPACE];
+    let mut hits = vec![0u32; 1 << 21];
+    println!("{:10} {:>9} {:>9} {:>9} {:>9} {:>12} {:>9}", "trace", "shortest", "hits", "forward", "backward", "bytes asked", "check");
+    for shortest in [1, 2, 4, 8, 12] {
+        let mut random = Random::new(1000 + shortest as u64);
+        let words = words(&mut random, shortest);
+        let (set, _) = set_file(&words);
+        let table = crate::make(&set).expect("the set passes");
+        for kind in &KINDS {
+            let trace = (kind.trace)(&mut random, &words, n);
+            let found = crate::backward(&set, &trace, &table, &mut workspace, &mut hits);
+            let forward = nanoseconds(|| {
+                black_box(crate::forward(black_box(&set), black_box(&trace), &mut workspace, &mut hits));
+            });
+            let backward = nanoseconds(|| {
+                black_box(crate::backward(black_box(&set), black_box(&trace), &table, &mut workspace, &mut hits));
+            });
+            let check = nanoseconds(|| {
+                black_box(crate::backward(black_box(&set), &[], &table, &mut workspace, &mut hits));
+            });
+            println!(
+                "{:10} {shortest:9} {:9} {:9.2} {:9.2} {:12.2} {:9.3}",
+                kind.name,
+                found.count,
+                1.0,
+                backward / forward,
+                f64::from(found.questions) / n as f64,
+                check / backward
+            );
+        }
+    }
 }

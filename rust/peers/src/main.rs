@@ -1,7 +1,7 @@
 //! The benchmark beside aho-corasick: overlapping matches, as an NFA and as a DFA.
 
 use aho_corasick::AhoCorasickBuilder;
-use bezowik::measure::{forward_table, Peer, Scan};
+use bezowik::measure::{backward_table, forward_table, Peer, Scan};
 
 fn ready(words: &[Vec<u8>], energies: &[u64], dfa: bool) -> Scan {
     let automaton = AhoCorasickBuilder::new().dfa(dfa).build(words);
@@ -16,4 +16,6 @@ fn main() {
         Peer { name: "aho NFA", ready: |words, energies| ready(words, energies, false) },
         Peer { name: "aho DFA", ready: |words, energies| ready(words, energies, true) },
     ]);
+    println!();
+    backward_table();
 }

@@ -2,4 +2,6 @@
 
 fn main() {
     bezowik::measure::forward_table(&[]);
+    println!();
+    bezowik::measure::backward_table();
 }
