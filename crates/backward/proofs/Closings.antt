@@ -1,8 +1,8 @@
 -- The hits of a window are listed from the keyword that it met last to the one that it met first: each turn lists the one
 -- before those listed.
-use Prim.Native.Nat.{ℕ, suc, _+_, _*_, _≤_, _<_}
+use Prim.Native.Nat.{ℕ, suc, _*_, _≤_, _<_}
 use native.Mathlib.Omega.{arith}
-use mathlib.Core.Path.{_≡_, refl, sym, _∙_, ap}
+use mathlib.Core.Path.{_≡_, sym}
 use mathlib.Core.List.{List, [], _∷_, _++_, map, map-append, reverse, reverse-cons, append-assoc, append-nil, List·Memᴰ}
 use lib.ListN.{length, take, drop, getD, length-append, length-take, length-map, length-reverse, length-drop, drop-of-length-le}
 use lib.Seq.{drop-cons, getD-take}
@@ -32,9 +32,6 @@ pub record Closed (s : List ℕ) (end : ℕ) (keys : List ℕ) (met left : ℕ) 
 
 module _ {s : List ℕ} {end : ℕ} {keys : List ℕ} {met : ℕ} {done : List Hit} {old : List ℕ} {tally : Tally} {hs : List ℕ}
     (closing : Closing s end keys met done old tally hs) where
-  part : ℕ → List Hit
-  part left = partOf s end keys met left
-
   -- before the first
   pub closed-none : Closed s end keys met met done old tally hs
   unfolding partOf
@@ -45,9 +42,6 @@ module _ {s : List ℕ} {end : ℕ} {keys : List ℕ} {met : ℕ} {done : List H
 
   -- keyword `left` next
   module _ {left : ℕ} {next : Tally} {hs′ : List ℕ} (closed : Closed s end keys met (suc left) done old next hs′) (more : left < met) where
-    key : ℕ
-    key = getD keys left 0
-
     pub closed-hit : Hitting s end (getD keys left 0) (done ++ partOf s end keys met (suc left)) old next hs′
     unfolding partOf
     closed-hit =

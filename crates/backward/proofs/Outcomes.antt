@@ -1,7 +1,7 @@
 -- The scan's answer and what it leaves: the tests decide, and where they pass the run has found all that the trace holds.
 use Prim.Native.Nat.{ℕ, suc, _*_, _≤_, _<_}
 use native.Mathlib.Omega.{arith}
-use mathlib.Core.Path.{_≡_, refl, sym, _∙_, ap}
+use mathlib.Core.Path.{_≡_}
 use mathlib.Core.List.{List, List·Memᴰ}
 use lib.ListN.{length}
 use Rattle.rules.specs.declared.Refusal.{Refusal}

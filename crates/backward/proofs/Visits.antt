@@ -2,14 +2,14 @@
 -- those ahead are the run's, because an accepted table's run misses no hit.
 use Prim.Native.Nat.{ℕ, suc, _+_, _-_, _*_, _≤_, _<_}
 use native.Mathlib.Omega.{arith}
-use mathlib.Core.Path.{_≡_, refl, sym, _∙_, ap}
-use mathlib.Core.List.{List, [], _∷_, _++_, map, map-map, flatMap, reverse, append-assoc, append-nil, Memᴰ·append-left}
+use mathlib.Core.Path.{_≡_, sym, _∙_, ap}
+use mathlib.Core.List.{List, [], _++_, map, map-map, flatMap, reverse, append-assoc, append-nil, Memᴰ·append-left}
 use lib.ListN.{length, take, length-append, length-take, length-map, length-reverse}
 use Rattle.rules.specs.Limits.{longestWord, longestTrace}
 use Rattle.rules.specs.Sets.{Keyword, keywords, keywordAt}
 use Rattle.rules.specs.Rows.{backward}
-use Rattle.rules.specs.Hits.{Hit, hits, energy}
-use Rattle.rules.specs.Runs.{edgeIn, windowAt, moveBy, move, entered, windowHits, visits, runHits, asked, askedAll, runQuestions}
+use Rattle.rules.specs.Hits.{Hit, hits}
+use Rattle.rules.specs.Runs.{edgeIn, windowAt, move, entered, windowHits, visits, runHits, asked, askedAll, runQuestions}
 use Rattle.rules.proofs.Hits.{hits-few, hits-occur, energy-most}
 use Rattle.rules.proofs.Rows.{rowOf-is, rowed-rows}
 use Rattle.rules.proofs.Windows.{window-reading, window-short}
@@ -19,9 +19,8 @@ use Rattle.rules.proofs.Ahead.{ahead, ahead-none, ahead-more}
 use Rattle.hits.specs.declared.Tally.{Tally}
 use Rattle.hits.specs.Tallies.{Tallied, hitOf}
 use Rattle.hits.proofs.Tallying.{tallied-length}
-use Rattle.backward.specs.declared.Seen.{Seen}
 use Rattle.backward.specs.Windowed.{moveIn, windowOf, Moving, Closing, Prepared, Ran}
-use Rattle.backward.proofs.Reached.{rowsIn, Reached, Stopped, Kept}
+use Rattle.backward.proofs.Reached.{rowsIn, Stopped}
 
 -- the hits and the questions of the windows ahead of `end`
 abbrev pub hitsAhead : List ℕ → List ℕ → List ℕ → List ℕ → ℕ → List Hit

@@ -4,48 +4,33 @@ use native.Mathlib.Omega.{arith}
 use mathlib.Core.Path.{_≡_}
 use mathlib.Core.List.{List, []}
 use lib.ListN.{length}
-use borrow.Author.Tests.{ltb-false}
 use Rattle.rules.specs.declared.Refusal.{Refusal}
 use Rattle.rules.specs.declared.Scanned.{Scanned}
-use Rattle.rules.specs.Limits.{longestTrace, longestWord, rowCells}
+use Rattle.rules.specs.Limits.{longestTrace, longestWord}
 use Rattle.rules.specs.Sets.{keywords}
-use Rattle.rules.specs.Rows.{forward, rowsOf, cells}
+use Rattle.rules.specs.Rows.{forward, cells}
 use Rattle.rules.specs.Hits.{over}
-use Rattle.rules.specs.Refusals.{pass, refuse, fileVerdict, traceVerdict, workspaceVerdict}
+use Rattle.rules.specs.Refusals.{pass, refuse}
 use Rattle.rules.specs.Answers.{told, numberOf, placeOf}
 use Rattle.rules.specs.Promises.{Forward, onPass, kept, answerOr, withRows, forwardTold, forwardVerdict}
 use Rattle.rules.proofs.Sound.{Sound}
-use Rattle.rules.proofs.Verdicts.{orElse-pass, refuseIf-pass}
-use Rattle.rules.proofs.Sets.{set-passed}
 use Rattle.rules.proofs.Hits.{hits-few}
 use Rattle.rules.proofs.Questions.{questions-bound}
 use Rattle.rows.specs.declared.enter.Entered.{Entered}
 use Rattle.rows.specs.Entry.{enteredVerdict, Admission}
+use Rattle.rows.proofs.Admitted.{Admitted, entry-judged, entry-admitted}
 use Rattle.rows.proofs.Laying.{over-laid}
 use Rattle.forward.specs.declared.Running.{Running}
 use Rattle.forward.specs.Running.{Scanning, Going}
 
 -- the verdict of a job that has just entered
 pub forward-judged : (s t : List ℕ) (room : ℕ) {r : Entered} → Admission forward s (length t) room r → enteredVerdict r ≡ forwardVerdict s t room
-unfolding forwardVerdict traceVerdict
-forward-judged s t room a = a .judged
+unfolding forwardVerdict
+forward-judged s t room a = entry-judged t a
 
--- what a set, a trace and a workspace that passed are
-pub record Admitted (s t ws : List ℕ) : Type 0 where
-  pub file : fileVerdict s ≡ pass
-  pub near : length t ≤ longestTrace
-  pub room : rowCells * length (rowsOf forward (keywords s)) ≤ length ws
-
-pub forward-admitted : (s t ws : List ℕ) → forwardVerdict s t (length ws) ≡ pass → Admitted s t ws
-unfolding forwardVerdict traceVerdict workspaceVerdict
-forward-admitted s t ws p =
-    let a = orElse-pass _ _ p in
-    let b = orElse-pass _ _ (a .1) in
-    record {
-      file = set-passed forward s (a .0) .file;
-      near = ltb-false longestTrace (length t) (refuseIf-pass _ _ (b .0));
-      room = ltb-false (length ws) (rowCells * length (rowsOf forward (keywords s))) (refuseIf-pass _ _ (b .1));
-    }
+pub forward-admitted : (s t ws : List ℕ) → forwardVerdict s t (length ws) ≡ pass → Admitted forward s t ws
+unfolding forwardVerdict
+forward-admitted s t ws p = entry-admitted forward s t ws p
 
 -- a refusal changes nothing
 pub forward-refused : {s t ws hs : List ℕ} (r : Refusal) → refuse (numberOf r) (placeOf r) ≡ forwardVerdict s t (length ws) → Forward s t ws hs (told (Scanned.Refused r)) ws hs
@@ -53,7 +38,7 @@ unfolding answerOr kept onPass
 forward-refused r p = record { answered = rw (← p); rows = rw (← p); listed = rw (← p) }
 
 -- a scan that passed its tests
-module _ {s t ws : List ℕ} (admitted : Admitted s t ws) (sound : Sound (keywords s)) {hs : List ℕ} {run : Running} where
+module _ {s t ws : List ℕ} (admitted : Admitted forward s t ws) (sound : Sound (keywords s)) {hs : List ℕ} {run : Running} where
   -- before the first byte
   pub start-going : {ws′ : List ℕ} → ws′ ≡ over (cells forward (keywords s)) ws → Scanning (keywords s) [] hs run hs → Going s [] hs ws′ (length t) run hs
   start-going laid fresh =

@@ -2,7 +2,6 @@
 use sets::energy_of;
 ghost use mathlib.Core.List.{List, [], _∷_, _++_};
 ghost use Prim.Native.Nat.{ℕ};
-ghost use Rattle.rules.specs.Sets.{keywordAt};
 ghost use Rattle.rules.specs.Hits.{Hit};
 ghost use Rattle.hits.specs.Tallies.{Tallied, Hitting, hitOf};
 

@@ -10,10 +10,10 @@ use borrow.Author.Tests.{lt-ltb, le-ltb}
 use Rattle.rules.specs.Limits.{answerSize, rowCells, mostRows}
 use Rattle.rules.specs.Rows.{forward}
 use Rattle.rules.specs.Hits.{over}
-use Rattle.rules.specs.Refusals.{pass, refuse, refuseIf, orElse, setVerdict, traceVerdict, workspaceVerdict, answerVerdict}
+use Rattle.rules.specs.Refusals.{pass, refuse, orElse, setVerdict, traceVerdict, workspaceVerdict, answerVerdict}
 use Rattle.rules.specs.Answers.{Told, answerBytes}
 use Rattle.rules.specs.Promises.{onPass, kept, answerOr, Forward, forwardTold, forwardVerdict, Backward, Make, Check, hostVerdict, hostTold, Host}
-use Rattle.rules.proofs.Verdicts.{verdict-cases, refuse-orElse, pass-orElse, orElse-right, refuseIf-true, refuseIf-false}
+use Rattle.rules.proofs.Verdicts.{verdict-cases, refuse-orElse, orElse-right, refuseIf-true, refuseIf-false}
 use Rattle.rules.proofs.Sets.{set-passed}
 use Rattle.host.specs.Calls.{Telling, ForwardCall, BackwardCall, MakeCall, CheckCall}
 

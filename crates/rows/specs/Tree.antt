@@ -1,9 +1,9 @@
 -- A workspace that holds rows: each number of a row by the definitions of `rules`.
 use Prim.Native.Nat.{ℕ, zero, suc, _+_, _-_, _*_, _≤_, _<_}
 use mathlib.Core.Path.{_≡_}
-use mathlib.Core.Bool.{Bool, true, false, cond}
+use mathlib.Core.Bool.{Bool, cond}
 use mathlib.Core.List.{List, [], _∷_, _++_}
-use lib.ListN.{length, getD, take, drop, set}
+use lib.ListN.{length, getD, drop, set}
 use lib.Seq.{sets}
 use lib.Dec.{eqb}
 use Rattle.rules.specs.Limits.{rowCells}

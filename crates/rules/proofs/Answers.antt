@@ -10,7 +10,7 @@ use Rattle.rules.specs.declared.Refusal.the-variants.{SetEmpty, SetSize,
 use Rattle.rules.specs.declared.Scanned.{Scanned}
 use Rattle.rules.specs.declared.Tabled.{Tabled}
 use Rattle.rules.specs.Limits.{answerSize}
-use Rattle.rules.specs.Answers.{numberOf, placeOf, Told, toldRefusal, told, toldRows, toldTable, lowFirst, answerBytes}
+use Rattle.rules.specs.Answers.{numberOf, placeOf, Told, toldRefusal, told, toldTable, lowFirst, answerBytes}
 
 -- what can be read back loses nothing
 pub read-back {ℓ κ} : {A : Type ℓ} {B : Type κ} (f : A → B) (g : B → A) → ((a : A) → g (f a) ≡ a) → (a b : A) → f a ≡ f b → a ≡ b

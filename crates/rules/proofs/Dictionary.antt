@@ -6,15 +6,15 @@ use mathlib.Core.Path.{_≡_, refl, sym, _∙_, ap}
 use mathlib.Core.Logic.{_⊎_, inl, inr}
 use mathlib.Core.Bool.{Bool, true, false, cond}
 use mathlib.Core.List.{List, [], _∷_, _++_, flatMap, List·Memᴰ, List·Memᴰ·not-nil, List·Memᴰ·cases-cons}
-use lib.ListN.{length, length-append}
-use Rattle.rules.specs.Strings.{same, begins, suffixes, any, keep, longest, longestBehind}
+use lib.ListN.{length}
+use Rattle.rules.specs.Strings.{same, suffixes, any, keep, longest, longestBehind}
 use Rattle.rules.specs.Sets.{Keyword, keywordsThatAre, isKeyword}
 use Rattle.rules.specs.Rows.{forward, readBy, starts}
 use Rattle.rules.specs.Hits.{endingAt}
 use Rattle.rules.specs.Audit.{Ordered, none, next}
-use Rattle.rules.proofs.Strings.{either, never, fails, same-true, same-refl, eq-same, begins-refl, any-true, any-mem, or-fails-left, or-fails-right}
+use Rattle.rules.proofs.Strings.{either, never, fails, same-true, same-refl, eq-same, any-true, any-mem, or-fails-left, or-fails-right}
 use Rattle.rules.proofs.Rows.{keyword-starts}
-use Rattle.rules.proofs.State.{at-longest, longest-nil, longest-or, longest-cond, longest-behind}
+use Rattle.rules.proofs.State.{at-longest, longest-nil, longest-cond, longest-behind}
 
 -- where none passes, none is kept
 keep-none {ℓ} : {A : Type ℓ} (p : A → Bool) (l : List A) → any p l ≡ false → keep p l ≡ []

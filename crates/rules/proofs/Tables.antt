@@ -15,7 +15,7 @@ use Rattle.rules.specs.Sets.{Keyword}
 use Rattle.rules.specs.Rows.{backward, rowsOf}
 use Rattle.rules.specs.Skips.{inner, edge, far, suffixRows, count, named, rowFile, byteFile}
 use Rattle.rules.specs.Runs.{innerIn, edgeIn, farIn}
-use Rattle.rules.specs.Refusals.{Verdict, pass, refuse, refuseIf, orElse, faulty, rowVerdicts, farVerdicts, tableVerdict}
+use Rattle.rules.specs.Refusals.{Verdict, pass, refuseIf, orElse, faulty, rowVerdicts, farVerdicts, tableVerdict}
 use Rattle.rules.proofs.Strings.{or-fails-left, or-fails-right, same-true, eq-same}
 use Rattle.rules.proofs.Parts.{getD-map-within}
 use Rattle.rules.proofs.Sound.{Sound}

@@ -4,17 +4,17 @@ use native.Mathlib.Omega.{arith}
 use mathlib.Core.Path.{_≡_, refl, sym, _∙_, ap}
 use mathlib.Core.Bool.{Bool, true, false, cond}
 use mathlib.Core.List.{List, [], _∷_, _++_, flatMap, reverse, reverse-cons, reverse-append, reverse-reverse, append-assoc, append-nil, List·Memᴰ, List·Memᴰ·head, List·Memᴰ·tail}
-use lib.ListN.{length, take, length-append, length-reverse}
+use lib.ListN.{length, take, length-reverse}
 use Rattle.rules.specs.Limits.{longestWord}
-use Rattle.rules.specs.Strings.{same, begins, suffixes, any, ends, keep}
+use Rattle.rules.specs.Strings.{same, suffixes, any, ends, keep}
 use Rattle.rules.specs.Sets.{Keyword, keywordsThatAre}
-use Rattle.rules.specs.Rows.{backward, readBy, starts, prefixes, rowsOf}
+use Rattle.rules.specs.Rows.{backward, readBy, prefixes, rowsOf}
 use Rattle.rules.specs.Hits.{endingAt}
 use Rattle.rules.specs.Runs.{Window, Stop, start, missing, windowFrom, windowAt, askedOf, asked, entered}
-use Rattle.rules.proofs.Strings.{never, fails, same-true, begins-true, any-true, ends-by}
+use Rattle.rules.proofs.Strings.{never, fails, same-true, ends-by}
 use Rattle.rules.proofs.Sound.{Sound}
 use Rattle.rules.proofs.PrefixRows.{filled-rows, row-short}
-use Rattle.rules.proofs.Rows.{rows-are, starts-closed, keyword-starts, prefixes-snoc, root-row, rowed-rows}
+use Rattle.rules.proofs.Rows.{starts-closed, keyword-starts, prefixes-snoc, root-row, rowed-rows}
 use Rattle.rules.proofs.Skips.{stopOf}
 
 -- What a window w is that began with s read, before it the bytes `before`, nearest first: some of them are read and the

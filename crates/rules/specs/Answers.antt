@@ -3,7 +3,6 @@ use Prim.Native.Nat.{ℕ, zero, suc, _/_, _%_}
 use mathlib.Core.List.{List, [], _∷_, _++_}
 use Rattle.rules.specs.declared.Refusal.{Refusal}
 use Rattle.rules.specs.declared.Refusal.the-variants.{SetEmpty, SetSize, TooManyKeywords, Length, Padding, Repeated, TooManyRows, TraceTooLong, WorkspaceShort, RowFileSize, RowNamesAnother, RowNumber, ByteFileSize, FarNumber, RowBufferShort, ByteBufferShort, AnswerShort}
-use Rattle.rules.specs.declared.Totals.{Totals}
 use Rattle.rules.specs.declared.Scanned.{Scanned}
 use Rattle.rules.specs.declared.Tabled.{Tabled}
 

@@ -1,9 +1,9 @@
 -- Document 01's table of refusals, in the order tested. A job's verdict is the first refusal of its tests.
 use Prim.Native.Nat.{ℕ, zero, suc, _+_, _-_, _*_, _/_, _%_}
-use mathlib.Core.Bool.{Bool, true, false, _&&_, _||_, not, cond}
+use mathlib.Core.Bool.{Bool, true, false, _||_, not}
 use mathlib.Core.List.{List, [], _∷_, _++_}
 use lib.ListN.{length, take, drop, getD}
-use lib.Dec.{eqb, leb, ltb}
+use lib.Dec.{eqb, ltb}
 use Rattle.rules.specs.Limits.{recordSize, longestWord, mostKeywords, mostRows, longestTrace, rowCells, rowRecord, depths, byteFileSize, answerSize}
 use Rattle.rules.specs.Strings.{same, any}
 use Rattle.rules.specs.Sets.{Keyword, keywordOf, keywords, isKeyword}

@@ -2,3 +2,4 @@
 pub mod Suffixes
 pub mod Fars
 pub mod Judging
+pub mod Beginning

@@ -18,6 +18,21 @@ use sets::shortest_of;
 ghost use Prim.Native.Nat.{ℕ};
 ghost use Rattle.rules.specs.Answers.{toldTable};
 ghost use Rattle.rules.specs.Promises.{Make, Check};
+ghost use Rattle.skips.specs.Beginning.{Begun};
+
+// What making and the check begin with: the tests 1 to 7 and 9, and where they pass the set's backward rows in the workspace.
+fn begin(set: &[u8], workspace: &mut [u16]) -> Entered
+    ensures { λ r. ⌜ Begun (now (set .entry)) (now (workspace .entry)) r (now (workspace .exit)) ⌝ }
+{
+    let entered = enter(set, Way::Backward, 0, workspace.len());
+    match entered {
+        Entered::Refused(fault) => Entered::Refused(fault),
+        Entered::Rows(rows) => {
+            lay(workspace, set, Way::Backward);
+            Entered::Rows(rows)
+        }
+    }
+}
 
 // The largest numbers of a set, at the front of two lent buffers: refusals 1 to 7, 9, 15 and 16, else the number of rows.
 pub fn make(
@@ -28,11 +43,10 @@ pub fn make(
 ) -> Tabled
     ensures { λ r. ⌜ Make (now (set .entry)) (now (workspace .entry)) (now («row_buffer» .entry)) (now («byte_buffer» .entry)) (toldTable r) (now (workspace .exit)) (now («row_buffer» .exit)) (now («byte_buffer» .exit)) ⌝ }
 {
-    let entered = enter(set, Way::Backward, 0, workspace.len());
-    match entered {
+    let begun = begin(set, workspace);
+    match begun {
         Entered::Refused(fault) => Tabled::Refused(fault),
         Entered::Rows(rows) => {
-            lay(workspace, set, Way::Backward);
             if row_buffer.len() < 18 * rows {
                 return Tabled::Refused(Refusal::RowBufferShort { rows: rows as u16 });
             }
@@ -51,11 +65,10 @@ pub fn make(
 pub fn check(set: &[u8], row_file: &[u8], byte_file: &[u8], workspace: &mut [u16]) -> Tabled
     ensures { λ r. ⌜ Check (now (set .entry)) (now («row_file» .entry)) (now («byte_file» .entry)) (now (workspace .entry)) (toldTable r) (now (workspace .exit)) ⌝ }
 {
-    let entered = enter(set, Way::Backward, 0, workspace.len());
-    match entered {
+    let begun = begin(set, workspace);
+    match begun {
         Entered::Refused(fault) => Tabled::Refused(fault),
         Entered::Rows(rows) => {
-            lay(workspace, set, Way::Backward);
             let judged = judge(set, rows, row_file, byte_file);
             match judged {
                 Judged::Refused(fault) => Tabled::Refused(fault),

@@ -1,13 +1,11 @@
 -- What is listed and the keywords not yet listed are all that the window met: each turn lists the one before the last listed.
 use Prim.Native.Nat.{ℕ, suc, _-_, _≤_, _<_}
 use native.Mathlib.Omega.{arith}
-use mathlib.Core.Path.{_≡_, refl, sym, _∙_}
-use mathlib.Core.List.{List, _++_}
-use lib.ListN.{getD, length-map}
-use denote.Ref.{now}
+use mathlib.Core.Path.{_≡_, refl, _∙_}
+use mathlib.Core.List.{List}
 use Rattle.rules.specs.Hits.{Hit}
 use Rattle.backward.specs.Windowed.{Closing}
-use Rattle.backward.proofs.Closings.{Closed, partOf, closed-none, closed-hit, closed-more, closed-all}
+use Rattle.backward.proofs.Closings.{Closed, closed-none, closed-hit, closed-more, closed-all}
 use Rattle.backward.proofs.list_window.Statement.{statement}
 use Rattle.backward.proofs.list_window.Tie as tie
 

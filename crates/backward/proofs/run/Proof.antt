@@ -1,7 +1,7 @@
 -- What is found and what the windows ahead will find are all the hits; in each window the byte loop follows the definition's.
-use Prim.Native.Nat.{suc, _+_, _-_, _≤_, _<_}
+use Prim.Native.Nat.{suc, _-_, _<_}
 use native.Mathlib.Omega.{arith}
-use mathlib.Core.Path.{_≡_, refl, sym, _∙_}
+use mathlib.Core.Path.{refl, sym, _∙_}
 use mathlib.Core.Logic.{⊎-elim}
 use mathlib.Core.List.{[]}
 use lib.ListN.{length, getD}
@@ -9,7 +9,7 @@ use denote.Ref.{now}
 use borrow.Author.Needs.{needs}
 use Rattle.rules.specs.Limits.{opcodes}
 use Rattle.rows.specs.Tree.{Answered}
-use Rattle.backward.specs.Windowed.{Prepared, Closing, moveIn}
+use Rattle.backward.specs.Windowed.{Prepared}
 use Rattle.backward.proofs.Reached.{rowsIn, Reached, Stopped, reached-none, reached-within, child-room, child-free, reached-more, reached-key, stopped-start, stopped-missing}
 use Rattle.backward.proofs.Visits.{Running, first-room, running-none, running-few, running-length, running-all, running-more, window-closing, window-moving, window-some}
 use Rattle.backward.proofs.run.Statement.{statement}

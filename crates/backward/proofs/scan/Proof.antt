@@ -6,8 +6,7 @@ use denote.Ref.{now}
 use borrow.Author.Needs.{needs}
 use Rattle.rules.specs.Limits.{opcodes}
 use Rattle.rules.specs.Sets.{keywords}
-use Rattle.rules.specs.Rows.{backward, cells}
-use Rattle.rules.specs.Hits.{over}
+use Rattle.rules.specs.Rows.{backward}
 use Rattle.rules.specs.Refusals.{pass, tableVerdict}
 use Rattle.rules.specs.Promises.{backwardEntry}
 use Rattle.rules.proofs.Sound.{Sound}

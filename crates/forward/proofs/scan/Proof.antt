@@ -13,7 +13,9 @@ use Rattle.rules.proofs.Bytes.{bytes-sound}
 use Rattle.sets.specs.Words.{wayOf}
 use Rattle.rows.specs.Entry.{enteredVerdict}
 use Rattle.forward.specs.Running.{Scanning, Going}
-use Rattle.forward.proofs.Outcomes.{Admitted, forward-judged, forward-admitted, forward-refused, start-going, count-few, questions-few, forward-found}
+use Rattle.rules.specs.Rows.{forward}
+use Rattle.rows.proofs.Admitted.{Admitted}
+use Rattle.forward.proofs.Outcomes.{forward-judged, forward-admitted, forward-refused, start-going, count-few, questions-few, forward-found}
 use Rattle.forward.proofs.scan.Statement.{statement}
 use Rattle.forward.proofs.scan.Tie as tie
 
@@ -46,7 +48,7 @@ passed c = sym (judged (c .before .before)) ∙ ap enteredVerdict (c .enum-told 
 
 admitted : (c : tie.After-enum-told)
     → let a = c .before .before .before .before .before .before .before .args in
-    Admitted (now (a .set)) (now (a .trace)) (now (a .workspace))
+    Admitted forward (now (a .set)) (now (a .trace)) (now (a .workspace))
 admitted c = forward-admitted _ _ _ (passed c)
 
 sound : (c : tie.After-enum-told) → Sound (keywords (now (c .before .before .before .before .before .before .before .args .set)))

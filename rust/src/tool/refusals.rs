@@ -1,0 +1,121 @@
+//! A refusal as a person reads it: the file, the number, the place, and a sentence that says what is wrong there.
+
+use super::files::{Input, Tables};
+use super::text::{hex, shown, suffix};
+use super::Failure;
+use crate::{Answer, Table, BYTES, RECORD, ROW};
+use std::path::Path;
+
+/// What the library was lent in the call that it answered.
+pub(crate) struct Lent<'a> {
+    pub set: &'a Input,
+    pub trace: Option<&'a Input>,
+    pub tables: Option<&'a Tables>,
+}
+
+/// The answer where it is no refusal, else the refusal in words.
+pub(crate) fn accepted(answer: Answer, lent: &Lent) -> Result<Answer, Failure> {
+    if answer.number == 0 {
+        return Ok(answer);
+    }
+    let (file, sentence) = explained(answer, lent);
+    Err(Failure::Refused(format!("{}: refusal {} place {}: {sentence}", file.display(), answer.number, answer.place)))
+}
+
+/// The file that a refusal is about, and the sentence.
+fn explained<'a>(answer: Answer, lent: &Lent<'a>) -> (&'a Path, String) {
+    let place = answer.place as usize;
+    match (answer.number, lent.trace, lent.tables) {
+        (1..=7, _, _) => (&lent.set.name, of_set(answer.number, place, &lent.set.bytes)),
+        (8, Some(trace), _) => (&trace.name, "the trace has over 1,048,576 bytes: scan it in parts".to_string()),
+        (10..=12, _, Some(tables)) => (&tables.row_name, of_rows(answer.number, place, &lent.set.bytes, &tables.table)),
+        (13..=14, _, Some(tables)) => (&tables.byte_name, of_bytes(answer.number, place, &lent.set.bytes, &tables.table)),
+        // the tool lends room for every set, so the library has no cause for any other
+        _ => (&lent.set.name, "the tool lent too little room, which is a fault of the tool".to_string()),
+    }
+}
+
+/// The refusals 1 to 7.
+fn of_set(number: u16, place: usize, set: &[u8]) -> String {
+    match number {
+        1 => "the set has no bytes: it must have at least one record of 18 bytes".to_string(),
+        2 => format!("the set has {} bytes, no multiple of 18: the file is cut short or is no keyword set", set.len()),
+        3 => format!("the set has {} records, more than 64: split it", set.len() / RECORD),
+        4 => format!("record {place} has the length {}, and a keyword has 1 to 15 bytes", record(set, place)[0]),
+        5 => format!("record {place}, keyword {}: the bytes behind the keyword, up to byte 15, must be zero", shown(word(set, place))),
+        6 => {
+            let earlier = (0..place).find(|&i| word(set, i) == word(set, place)).unwrap_or(0);
+            format!("record {place} has the same bytes as record {earlier}, {}: take one of the two out", shown(word(set, place)))
+        }
+        _ => "the set has over 961 rows".to_string(),
+    }
+}
+
+/// A record of a set.
+fn record(set: &[u8], place: usize) -> &[u8] {
+    &set[RECORD * place..RECORD * (place + 1)]
+}
+
+/// The keyword of a record that has passed test 4.
+fn word(set: &[u8], place: usize) -> &[u8] {
+    let record = record(set, place);
+    &record[1..1 + record[0] as usize]
+}
+
+/// The refusals 10 to 12, beside the table with the largest numbers.
+fn of_rows(number: u16, place: usize, set: &[u8], lent: &Table) -> String {
+    if number == 10 {
+        let (has, needs) = (lent.rows.len(), ROW * place);
+        return format!("the row file has {has} bytes, and this set's {place} rows need exactly {needs}: make the tables again for this set");
+    }
+    let largest = largest(set);
+    let found = &lent.rows[ROW * place..ROW * (place + 1)];
+    let most = &largest.rows[ROW * place..ROW * (place + 1)];
+    let row = suffix(&most[1..1 + most[0] as usize]);
+    let sentence = match number {
+        11 => format!("row {place} is {row}, but its record names {}: the file was made for another set, or a row slipped", named(found)),
+        _ => format!("a number of row {place}, {row}, is not safe"),
+    };
+    format!("{sentence}\n  {}\n  {}", judged("inner", found[16], most[16]), judged("edge", found[17], most[17]))
+}
+
+/// The refusals 13 and 14, beside the table with the largest numbers.
+fn of_bytes(number: u16, place: usize, set: &[u8], lent: &Table) -> String {
+    if number == 13 {
+        return format!("the byte file has {} bytes, and it must have exactly {BYTES}: make the tables again", lent.bytes.len());
+    }
+    let (byte, depth) = ((place / 16) as u8, place % 16);
+    let numbers = judged("far", lent.bytes[place], largest(set).bytes[place]);
+    format!("the number of byte {} at depth {depth} is not safe\n  {numbers}", byte_shown(byte))
+}
+
+/// The table with the largest safe numbers, of a set that has passed its tests.
+fn largest(set: &[u8]) -> Table {
+    crate::make(set).expect("a refusal of a table comes after the tests of the set")
+}
+
+/// A number of a table beside the largest safe one.
+fn judged(name: &str, found: u8, most: u8) -> String {
+    match found {
+        0 => format!("{name} is 0: the largest safe number is {most}, and 0 never moves on"),
+        n if n > most => format!("{name} is {n}: the largest safe number is {most}, and a larger one can lose hits"),
+        n => format!("{name} is {n}: safe, and the largest safe number is {most}"),
+    }
+}
+
+/// The suffix that a record of a row file names, or the record's sixteen bytes where it names none.
+fn named(record: &[u8]) -> String {
+    let n = record[0] as usize;
+    match n <= 15 && record[1 + n..16].iter().all(|&b| b == 0) {
+        true => suffix(&record[1..1 + n]),
+        false => format!("no suffix ({})", hex(&record[..16])),
+    }
+}
+
+/// One byte, in hex, and as text where it has one.
+fn byte_shown(byte: u8) -> String {
+    match byte.is_ascii_graphic() {
+        true => format!("{byte:02x} ({})", char::from(byte)),
+        false => format!("{byte:02x}"),
+    }
+}
