@@ -54,7 +54,8 @@ impl Answer {
     }
 }
 
-mod c {
+/// The C functions as the header has them, for callers that lend raw buffers.
+pub mod c {
     extern "C" {
         pub fn bezowik_cost(set: *const u8, set_bytes: usize, trace: *const u8, trace_bytes: usize, answer: *mut u8, answer_bytes: usize) -> u16;
         pub fn bezowik_forward(

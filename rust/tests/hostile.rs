@@ -5,7 +5,7 @@ mod common;
 
 use bezowik::random::Random;
 use bezowik::slow::{self, record, Keyword, Way};
-use bezowik::{Answer, Table, ANSWER, BYTES, RECORD, ROW, WORKSPACE};
+use bezowik::{c, Answer, Table, ANSWER, BYTES, RECORD, ROW, WORKSPACE};
 use common::{bench_set, damaged_set, random_trace, BENCH_TRACE};
 use std::collections::{BTreeMap, HashMap};
 use std::fmt::Debug;
@@ -215,64 +215,6 @@ fn slowly(job: Job, l: &mut Lent) -> u16 {
     told.number
 }
 
-mod c {
-    extern "C" {
-        pub fn bezowik_cost(set: *const u8, set_bytes: usize, trace: *const u8, trace_bytes: usize, answer: *mut u8, answer_bytes: usize) -> u16;
-        pub fn bezowik_forward(
-            set: *const u8,
-            set_bytes: usize,
-            trace: *const u8,
-            trace_bytes: usize,
-            workspace: *mut u16,
-            workspace_numbers: usize,
-            hits: *mut u32,
-            hit_numbers: usize,
-            answer: *mut u8,
-            answer_bytes: usize,
-        ) -> u16;
-        pub fn bezowik_backward(
-            set: *const u8,
-            set_bytes: usize,
-            trace: *const u8,
-            trace_bytes: usize,
-            row_file: *const u8,
-            row_bytes: usize,
-            byte_file: *const u8,
-            byte_bytes: usize,
-            workspace: *mut u16,
-            workspace_numbers: usize,
-            hits: *mut u32,
-            hit_numbers: usize,
-            answer: *mut u8,
-            answer_bytes: usize,
-        ) -> u16;
-        pub fn bezowik_make(
-            set: *const u8,
-            set_bytes: usize,
-            workspace: *mut u16,
-            workspace_numbers: usize,
-            row_buffer: *mut u8,
-            row_bytes: usize,
-            byte_buffer: *mut u8,
-            byte_bytes: usize,
-            answer: *mut u8,
-            answer_bytes: usize,
-        ) -> u16;
-        pub fn bezowik_check(
-            set: *const u8,
-            set_bytes: usize,
-            row_file: *const u8,
-            row_bytes: usize,
-            byte_file: *const u8,
-            byte_bytes: usize,
-            workspace: *mut u16,
-            workspace_numbers: usize,
-            answer: *mut u8,
-            answer_bytes: usize,
-        ) -> u16;
-    }
-}
-
 /// Where a buffer stands: null where it has no element.
 fn read<T>(buffer: &[T]) -> *const T {
     if buffer.is_empty() {
@@ -346,11 +288,11 @@ fn compare(tally: &mut Tally, call: Caller, job: Job, before: &Lent, expected: (
     // even what is lent for reading is looked at anew
     std::hint::black_box(&mut left);
     *tally.met.entry((job, result)).or_default() += 1;
-    if result == 0 && job <= Job::Backward {
-        tally.hits += Answer::from_bytes(left.answer.inside()).count as usize;
-    }
     if result != expected.0 || left != expected.1 {
         panic!("{job:?}: result {result}, expected {}\n{}lent: {}", expected.0, differences(&left, &expected.1), whole(job, before));
+    }
+    if result == 0 && job <= Job::Backward {
+        tally.hits += Answer::from_bytes(left.answer.inside()).count as usize;
     }
     left
 }
