@@ -152,16 +152,18 @@ pub fn list(hits: &[(u32, u32)], buffer: &mut [u32]) {
     }
 }
 
-/// The tests 8 and 9.
-pub fn room(keywords: &[Keyword], way: Way, trace: usize, workspace: usize) -> Option<Answer> {
+/// The tests 1 to 9, and behind them the rows in the workspace.
+fn enter(set: &[u8], way: Way, trace: usize, workspace: &mut [u16]) -> Result<Vec<Keyword>, Answer> {
+    let keywords = keywords(set, way)?;
     if trace > 1_048_576 {
-        return Some(Answer::refused(8, 0));
+        return Err(Answer::refused(8, 0));
     }
-    let rows = rows(keywords, way).len();
-    if workspace < 6 * rows {
-        return Some(Answer::refused(9, rows));
+    let rows = rows(&keywords, way).len();
+    if workspace.len() < 6 * rows {
+        return Err(Answer::refused(9, rows));
     }
-    None
+    over(workspace, &cells(&keywords, way));
+    Ok(keywords)
 }
 
 /// What a scan answers where it is not refused.
@@ -171,15 +173,11 @@ pub fn found(keywords: &[Keyword], hits: &[(u32, u32)], questions: u32) -> Answe
 
 /// The forward scan, with every lent buffer.
 pub fn forward(set: &[u8], trace: &[u8], workspace: &mut [u16], buffer: &mut [u32]) -> Answer {
-    let keywords = match keywords(set, Way::Forward) {
+    let keywords = match enter(set, Way::Forward, trace.len(), workspace) {
         Ok(keywords) => keywords,
         Err(refusal) => return refusal,
     };
-    if let Some(refusal) = room(&keywords, Way::Forward, trace.len(), workspace.len()) {
-        return refusal;
-    }
     let hits = hits(&keywords, trace);
-    over(workspace, &cells(&keywords, Way::Forward));
     list(&hits, buffer);
     found(&keywords, &hits, questions(&keywords, trace))
 }
@@ -266,14 +264,10 @@ fn counted(keywords: &[Keyword]) -> Answer {
 
 /// Making, with every lent buffer.
 pub fn make(set: &[u8], workspace: &mut [u16], row_buffer: &mut [u8], byte_buffer: &mut [u8]) -> Answer {
-    let keywords = match keywords(set, Way::Backward) {
+    let keywords = match enter(set, Way::Backward, 0, workspace) {
         Ok(keywords) => keywords,
         Err(refusal) => return refusal,
     };
-    if let Some(refusal) = room(&keywords, Way::Backward, 0, workspace.len()) {
-        return refusal;
-    }
-    over(workspace, &cells(&keywords, Way::Backward));
     let rows = rows(&keywords, Way::Backward).len();
     if row_buffer.len() < ROW * rows {
         return Answer::refused(15, rows);
@@ -289,14 +283,10 @@ pub fn make(set: &[u8], workspace: &mut [u16], row_buffer: &mut [u8], byte_buffe
 
 /// The check, with every lent buffer.
 pub fn check(set: &[u8], lent: &Table, workspace: &mut [u16]) -> Answer {
-    let keywords = match keywords(set, Way::Backward) {
+    let keywords = match enter(set, Way::Backward, 0, workspace) {
         Ok(keywords) => keywords,
         Err(refusal) => return refusal,
     };
-    if let Some(refusal) = room(&keywords, Way::Backward, 0, workspace.len()) {
-        return refusal;
-    }
-    over(workspace, &cells(&keywords, Way::Backward));
     fault(&keywords, lent).unwrap_or_else(|| counted(&keywords))
 }
 
@@ -328,14 +318,10 @@ pub fn run_questions(keywords: &[Keyword], trace: &[u8], lent: &Table) -> u32 {
 
 /// The backward scan, with every lent buffer.
 pub fn backward(set: &[u8], trace: &[u8], lent: &Table, workspace: &mut [u16], buffer: &mut [u32]) -> Answer {
-    let keywords = match keywords(set, Way::Backward) {
+    let keywords = match enter(set, Way::Backward, trace.len(), workspace) {
         Ok(keywords) => keywords,
         Err(refusal) => return refusal,
     };
-    if let Some(refusal) = room(&keywords, Way::Backward, trace.len(), workspace.len()) {
-        return refusal;
-    }
-    over(workspace, &cells(&keywords, Way::Backward));
     if let Some(refusal) = fault(&keywords, lent) {
         return refusal;
     }
