@@ -99,7 +99,7 @@ pub fn from_scanned(scanned: Scanned) -> Answer
 }
 
 // The answer of making or of the check: the rows stand where a scan has its count.
-pub fn from_tabled(tabled: Tabled) -> Answer
+pub(crate) fn from_tabled(tabled: Tabled) -> Answer
     ensures { λ r. ⌜ toldOf r ≡ toldTable tabled ⌝ }
 {
     match tabled {
@@ -129,7 +129,7 @@ fn put(answer: &mut [u8], from: usize, width: usize, value: u64)
 }
 
 // The answer in its twenty bytes, at the front of a buffer.
-pub fn write(answer: &mut [u8], found: Answer)
+pub(crate) fn write(answer: &mut [u8], found: Answer)
     requires { ⌜ 20 ≤ length (now answer) ⌝ }
     ensures { λ _. ⌜ now (answer .exit) ≡ over (answerBytes (toldOf found)) (now (answer .entry)) ⌝ }
 {

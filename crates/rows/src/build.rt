@@ -42,7 +42,7 @@ fn insert(ws: &mut [u16], set: &[u8], i: usize, way: Way, rows: usize) -> usize
 }
 
 // The rows of all keywords; how many there are.
-pub fn build(ws: &mut [u16], set: &[u8], way: Way) -> usize
+pub(crate) fn build(ws: &mut [u16], set: &[u8], way: Way) -> usize
     requires { ⌜ (fileVerdict (now set) ≡ pass) × (6 * length (rowsOf (wayOf way) (keywords (now set))) ≤ length (now ws)) ⌝ }
     ensures { λ r. ⌜ Built (wayOf way) (keywords (now (set .entry))) r (now (ws .entry)) (now (ws .exit)) ⌝ }
 {

@@ -19,7 +19,7 @@ fn cell(ws: &[u16], row: usize, k: usize) -> usize
 }
 
 // The byte that the row adds to its parent.
-pub fn byte(ws: &[u16], row: usize) -> u16
+pub(crate) fn byte(ws: &[u16], row: usize) -> u16
     requires { ⌜ 6 * row + 6 ≤ length (now ws) ⌝ }
     ensures { λ r. ⌜ r ≡ getD (now (ws .entry)) (6 * row + 0) 0 ⌝ }
 {
@@ -27,7 +27,7 @@ pub fn byte(ws: &[u16], row: usize) -> u16
 }
 
 // The lowest-numbered child; 0 where there is none.
-pub fn child(ws: &[u16], row: usize) -> usize
+pub(crate) fn child(ws: &[u16], row: usize) -> usize
     requires { ⌜ 6 * row + 6 ≤ length (now ws) ⌝ }
     ensures { λ r. ⌜ (r ≡ getD (now (ws .entry)) (6 * row + 1) 0) × (r < 65536) ⌝ }
 {
@@ -35,7 +35,7 @@ pub fn child(ws: &[u16], row: usize) -> usize
 }
 
 // The next higher row with the same parent; 0 where there is none.
-pub fn sibling(ws: &[u16], row: usize) -> usize
+pub(crate) fn sibling(ws: &[u16], row: usize) -> usize
     requires { ⌜ 6 * row + 6 ≤ length (now ws) ⌝ }
     ensures { λ r. ⌜ (r ≡ getD (now (ws .entry)) (6 * row + 2) 0) × (r < 65536) ⌝ }
 {
@@ -43,7 +43,7 @@ pub fn sibling(ws: &[u16], row: usize) -> usize
 }
 
 // The failure row.
-pub fn failure(ws: &[u16], row: usize) -> usize
+pub(crate) fn failure(ws: &[u16], row: usize) -> usize
     requires { ⌜ 6 * row + 6 ≤ length (now ws) ⌝ }
     ensures { λ r. ⌜ (r ≡ getD (now (ws .entry)) (6 * row + 3) 0) × (r < 65536) ⌝ }
 {

@@ -38,7 +38,7 @@ pub fn advance(ws: &[u16], row: usize, c: u16) -> Advanced
 }
 
 // The failure and dictionary rows of the child that the byte c leads to, from those of the levels above; the child.
-pub fn fill_row(ws: &mut [u16], parent: usize, c: u16) -> usize
+pub(crate) fn fill_row(ws: &mut [u16], parent: usize, c: u16) -> usize
     requires { ⌜ ((ks : List Keyword) × (d : ℕ) × Fillable ks d parent c (now ws)) ⌝ }
     ensures { λ r. ⌜ ((ks : List Keyword) (d : ℕ) → Fillable ks d parent c (now (ws .entry)) → Filled ks parent c r (now (ws .entry)) (now (ws .exit))) ⌝ }
 {

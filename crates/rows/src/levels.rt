@@ -14,7 +14,7 @@ ghost use Rattle.rows.specs.Falls.{Filling};
 ghost use Rattle.rows.specs.Levels.{Level, Levelled};
 
 // Where each keyword stands: the row of its prefix of one length.
-pub struct Standing {
+pub(crate) struct Standing {
     pub rows: [u16; 64],
 }
 
@@ -40,7 +40,7 @@ fn fill_level(ws: &mut [u16], set: &[u8], depth: usize, standing: Standing) -> S
 }
 
 // The failure and dictionary rows of all levels.
-pub fn fill(ws: &mut [u16], set: &[u8])
+pub(crate) fn fill(ws: &mut [u16], set: &[u8])
     requires { ⌜ (fileVerdict (now set) ≡ pass) × Held forward (keywords (now set)) (rowsOf forward (keywords (now set))) (now ws) ⌝ }
     ensures { λ _. ⌜ Filling (keywords (now (set .entry))) 15 (now (ws .exit)) × Beyond (length (rowsOf forward (keywords (now (set .entry))))) (now (ws .entry)) (now (ws .exit)) ⌝ }
 {

@@ -44,7 +44,7 @@ pub fn ask(ws: &[u16], row: usize, c: u16) -> Asked
 }
 
 // A new row behind the others, linked from its parent, or from the last of its siblings where there are some.
-pub fn append(ws: &mut [u16], rows: usize, parent: usize, last: usize, c: u16)
+pub(crate) fn append(ws: &mut [u16], rows: usize, parent: usize, last: usize, c: u16)
     requires { ⌜ (6 * rows + 6 ≤ length (now ws)) × (parent < rows) × (last < rows) × (rows < 65536) ⌝ }
     ensures { λ _. ⌜ now (ws .exit) ≡ appended (now (ws .entry)) rows parent last c ⌝ }
 {

@@ -27,7 +27,7 @@ fn lower(numbers: [u8; 16], d: usize) -> [u8; 16]
 }
 
 // The largest far numbers, in one pass over the keywords' bytes.
-pub fn far_numbers(set: &[u8], m: usize) -> [[u8; 16]; 256]
+pub(crate) fn far_numbers(set: &[u8], m: usize) -> [[u8; 16]; 256]
     requires { ⌜ (fileVerdict (now set) ≡ pass) × (m ≡ shortest (keywords (now set))) ⌝ }
     ensures { λ r. ⌜ r ≡ farTable (keywords (now (set .entry))) ⌝ }
 {
@@ -50,7 +50,7 @@ pub fn far_numbers(set: &[u8], m: usize) -> [[u8; 16]; 256]
 }
 
 // The byte file with the largest numbers, at the front of a buffer.
-pub fn put_bytes(set: &[u8], m: usize, buffer: &mut [u8])
+pub(crate) fn put_bytes(set: &[u8], m: usize, buffer: &mut [u8])
     requires { ⌜ (fileVerdict (now set) ≡ pass) × (m ≡ shortest (keywords (now set))) × (4096 ≤ length (now buffer)) ⌝ }
     ensures { λ _. ⌜ now (buffer .exit) ≡ over (byteFile (keywords (now (set .entry)))) (now (buffer .entry)) ⌝ }
 {
