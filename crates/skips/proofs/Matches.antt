@@ -1,15 +1,15 @@
 -- A suffix and a part of a keyword are parts of the set's bytes, so the tests of inner and edge compare bytes of the set.
 use Prim.Native.Nat.{ℕ, suc, _+_, _-_, _*_, _/_, _≤_, _<_}
 use native.Mathlib.Omega.{arith}
-use mathlib.Core.Path.{_≡_, sym, _∙_, ap}
+use mathlib.Core.Path.{_≡_, refl, sym, _∙_, ap}
 use mathlib.Core.Bool.{true, false}
 use mathlib.Core.List.{List, _∷_}
 use lib.ListN.{length, take, drop, getD, length-drop}
 use lib.Seq.{drop-cons, drop-drop, take-all}
 use borrow.Author.Tests.{eq-eqb, ne-eqb}
 use Rattle.rules.specs.Strings.{same}
-use Rattle.rules.specs.Sets.{keywordOf, recordAt, keywordAt}
-use Rattle.rules.specs.Skips.{holdsBefore, endsWithin}
+use Rattle.rules.specs.Sets.{Keyword, keywordOf, recordAt, keywordAt, shortest}
+use Rattle.rules.specs.Skips.{least, inner, edge, holdsBefore, endsWithin}
 use Rattle.rules.proofs.Strings.{same-sym}
 use Rattle.rules.proofs.Sets.{length-keywords}
 use Rattle.rules.proofs.Parts.{part-part}
@@ -17,7 +17,9 @@ use Rattle.rules.proofs.Distances.{holds-short, holds-part, ends-whole, ends-sh
 use Rattle.sets.specs.Words.{Stated}
 use Rattle.sets.proofs.Records.{length-at, word-length}
 use Rattle.sets.proofs.Passed.{good-file, good-whole, good-stated}
-use Rattle.skips.specs.Suffixes.{Listed, Suffix, suffixAt}
+use Rattle.skips.specs.declared.numbers.Number.{Number}
+use Rattle.skips.specs.declared.numbers.Number.the-variants.{Inner, Edge}
+use Rattle.skips.specs.Suffixes.{Listed, Suffix, suffixAt, testOf, somePasses, largestOf}
 
 -- a keyword of a set that passed: its record, its length and its bytes
 module _ {s : List ℕ} {i : ℕ} (ok : Listed s i) where
@@ -179,3 +181,9 @@ module _ {s : List ℕ} {p q n k : ℕ} (so : Matched s p q n k) where
           low = omega arith;
           known = first ∙ rw (here, there, rest, eq-eqb _ _ e);
         }
+
+-- a number is the least at which some keyword passes its test
+pub largest-least : (which : Number) (ks : List Keyword) (v : List ℕ) → largestOf which ks v ≡ least (shortest ks) (somePasses which ks v)
+unfolding largestOf somePasses testOf inner edge
+largest-least Inner ks v = refl
+largest-least Edge ks v = refl

@@ -13,6 +13,8 @@ use Rattle.rules.specs.Skips.{inner, edge, holdsBefore, endsWithin, named, suff
 use Rattle.rules.proofs.Count.{mostCommon}
 use Rattle.sets.specs.Words.{earlier, readAt}
 use Rattle.skips.specs.declared.suffixes.Place.{Place}
+use Rattle.skips.specs.declared.numbers.Number.{Number}
+use Rattle.skips.specs.declared.numbers.Number.the-variants.{Inner, Edge}
 
 -- the last z bytes of keyword i of the set s, in trace order
 unfoldable pub suffixAt : List ℕ → ℕ → ℕ → List ℕ
@@ -28,12 +30,18 @@ pub record Suffix (s : List ℕ) (i z : ℕ) : Type 0 where
   pub listed : Listed s i
   pub short : z ≤ length (keywordAt s i .word)
 
--- document 01's two tests over all keywords
-unfoldable pub someHolds : List Keyword → List ℕ → ℕ → Bool
-someHolds ks v n = any (λ (k : Keyword). holdsBefore v n (k .word)) ks
+-- document 01's test of a number: inner's, that a keyword has the suffix with exactly n bytes after it, or edge's, that some string
+-- made of the suffix and n further bytes ends with the keyword; over all keywords; and the number, the least that passes
+unfoldable pub testOf : Number → List ℕ → ℕ → List ℕ → Bool
+testOf Inner = holdsBefore
+testOf Edge = endsWithin
 
-unfoldable pub someEnds : List Keyword → List ℕ → ℕ → Bool
-someEnds ks v n = any (λ (k : Keyword). endsWithin v n (k .word)) ks
+unfoldable pub somePasses : Number → List Keyword → List ℕ → ℕ → Bool
+somePasses which ks v n = any (λ (k : Keyword). testOf which v n (k .word)) ks
+
+unfoldable pub largestOf : Number → List Keyword → List ℕ → ℕ
+largestOf Inner = inner
+largestOf Edge = edge
 
 -- a row's record with the largest numbers
 unfoldable pub recordFor : List Keyword → List ℕ → List ℕ

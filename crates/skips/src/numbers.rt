@@ -6,8 +6,14 @@ ghost use lib.ListN.{length, take, drop};
 ghost use Rattle.rules.specs.Strings.{same};
 ghost use Rattle.rules.specs.Sets.{keywords, keywordAt, shortest};
 ghost use Rattle.rules.specs.Skips.{holdsBefore, endsWithin};
-ghost use Rattle.rules.specs.Skips as Skips;
-ghost use Rattle.skips.specs.Suffixes.{Suffix, Listed, suffixAt, someHolds, someEnds};
+ghost use Rattle.skips.specs.Suffixes.{Suffix, Listed, suffixAt, testOf, somePasses, largestOf};
+
+// The two numbers of a suffix. inner: the least n such that some keyword has it with exactly n bytes after it. edge: the least n such
+// that some string made of it and n further bytes ends with a keyword.
+pub(crate) enum Number {
+    Inner,
+    Edge,
+}
 
 // Whether n bytes of the set are the same from p on and from q on.
 fn alike(set: &[u8], p: usize, q: usize, n: usize) -> bool
@@ -54,15 +60,26 @@ fn ends_within(set: &[u8], i: usize, z: usize, k: usize, n: usize) -> bool
     alike(set, 18 * i + 1 + a - front, 18 * k + 1, front)
 }
 
-// Whether some keyword has the suffix with exactly n bytes after it.
-fn some_holds(set: &[u8], i: usize, z: usize, n: usize) -> bool
+// Whether keyword k stops the search for a number of the suffix at n.
+fn passes(set: &[u8], i: usize, z: usize, k: usize, n: usize, which: Number) -> bool
+    requires { ⌜ Suffix (now set) i z × Listed (now set) k × (n < 16) ⌝ }
+    ensures { λ r. ⌜ r ≡ testOf which (suffixAt (now (set .entry)) i z) n (keywordAt (now (set .entry)) k .word) ⌝ }
+{
+    match which {
+        Number::Inner => holds_before(set, i, z, k, n),
+        Number::Edge => ends_within(set, i, z, k, n),
+    }
+}
+
+// Whether some keyword does.
+fn some_passes(set: &[u8], i: usize, z: usize, n: usize, which: Number) -> bool
     requires { ⌜ Suffix (now set) i z × (n < 16) ⌝ }
-    ensures { λ r. ⌜ r ≡ someHolds (keywords (now (set .entry))) (suffixAt (now (set .entry)) i z) n ⌝ }
+    ensures { λ r. ⌜ r ≡ somePasses which (keywords (now (set .entry))) (suffixAt (now (set .entry)) i z) n ⌝ }
 {
     let count = set.len() / 18;
     let mut k = 0;
     while k < count {
-        if holds_before(set, i, z, k, n) {
+        if passes(set, i, z, k, n, which) {
             return true;
         }
         k += 1;
@@ -70,46 +87,14 @@ fn some_holds(set: &[u8], i: usize, z: usize, n: usize) -> bool
     false
 }
 
-// Whether some string made of the suffix and n further bytes ends with a keyword.
-fn some_ends(set: &[u8], i: usize, z: usize, n: usize) -> bool
-    requires { ⌜ Suffix (now set) i z ⌝ }
-    ensures { λ r. ⌜ r ≡ someEnds (keywords (now (set .entry))) (suffixAt (now (set .entry)) i z) n ⌝ }
-{
-    let count = set.len() / 18;
-    let mut k = 0;
-    while k < count {
-        if ends_within(set, i, z, k, n) {
-            return true;
-        }
-        k += 1;
-    }
-    false
-}
-
-// inner of the suffix: the least n from 1 up such that some keyword has it with exactly n bytes after it, capped at m.
-pub fn inner(set: &[u8], i: usize, z: usize, m: usize) -> usize
+// A number of the suffix: the least n from 1 up at which some keyword stops the search, capped at m.
+pub(crate) fn largest(set: &[u8], i: usize, z: usize, m: usize, which: Number) -> usize
     requires { ⌜ Suffix (now set) i z × (m ≡ shortest (keywords (now set))) ⌝ }
-    ensures { λ r. ⌜ (r ≡ Skips.inner (keywords (now (set .entry))) (suffixAt (now (set .entry)) i z)) × (r < 16) ⌝ }
+    ensures { λ r. ⌜ (r ≡ largestOf which (keywords (now (set .entry))) (suffixAt (now (set .entry)) i z)) × (r < 16) ⌝ }
 {
     let mut n = 1;
     while n < m {
-        if some_holds(set, i, z, n) {
-            return n;
-        }
-        n += 1;
-    }
-    n
-}
-
-// edge of the suffix: the least n from 1 up such that some string made of it and n further bytes ends with a keyword, capped
-// at m.
-pub fn edge(set: &[u8], i: usize, z: usize, m: usize) -> usize
-    requires { ⌜ Suffix (now set) i z × (m ≡ shortest (keywords (now set))) ⌝ }
-    ensures { λ r. ⌜ (r ≡ Skips.edge (keywords (now (set .entry))) (suffixAt (now (set .entry)) i z)) × (r < 16) ⌝ }
-{
-    let mut n = 1;
-    while n < m {
-        if some_ends(set, i, z, n) {
+        if some_passes(set, i, z, n, which) {
             return n;
         }
         n += 1;

@@ -1,6 +1,6 @@
 // The backward rows in row order, each as a suffix of a keyword, and the record of each.
-use crate::numbers::edge;
-use crate::numbers::inner;
+use crate::numbers::Number;
+use crate::numbers::largest;
 use rules::Way;
 use sets::length_of;
 use sets::most_shared;
@@ -16,13 +16,13 @@ ghost use Rattle.rules.specs.Skips.{rowFile};
 ghost use Rattle.skips.specs.Suffixes.{Suffix, At, PutRows, recordFor, suffixAt, putAt};
 
 // A row as a suffix: the last `depth` bytes of a keyword.
-pub struct Place {
+pub(crate) struct Place {
     pub keyword: usize,
     pub depth: usize,
 }
 
 // Row 0, the empty suffix.
-pub fn first() -> Place
+pub(crate) fn first() -> Place
     ensures { λ r. ⌜ ((s : List ℕ) → fileVerdict s ≡ pass → At s 0 r) ⌝ }
 {
     Place {
@@ -32,7 +32,7 @@ pub fn first() -> Place
 }
 
 // The row behind a row: one byte more of the same keyword, or the first suffix of a later keyword that no earlier one ends with.
-pub fn next(set: &[u8], at: Place, row: usize) -> Place
+pub(crate) fn next(set: &[u8], at: Place, row: usize) -> Place
     requires { ⌜ At (now set) row at × (row + 1 < length (rowsOf backward (keywords (now set)))) ⌝ }
     ensures { λ r. ⌜ At (now (set .entry)) (row + 1) r ⌝ }
 {
@@ -49,7 +49,7 @@ pub fn next(set: &[u8], at: Place, row: usize) -> Place
 }
 
 // The record of a row with the largest numbers: the suffix in its sixteen places, inner, edge.
-pub fn record_of(set: &[u8], at: Place, m: usize) -> [u8; 18]
+pub(crate) fn record_of(set: &[u8], at: Place, m: usize) -> [u8; 18]
     requires { ⌜ Suffix (now set) (at .keyword) (at .depth) × (m ≡ shortest (keywords (now set))) ⌝ }
     ensures { λ r. ⌜ r ≡ recordFor (keywords (now (set .entry))) (suffixAt (now (set .entry)) (at .keyword) (at .depth)) ⌝ }
 {
@@ -63,8 +63,8 @@ pub fn record_of(set: &[u8], at: Place, m: usize) -> [u8; 18]
         numbers[1 + k] = set[from + k];
         k += 1;
     }
-    numbers[16] = inner(set, i, z, m) as u8;
-    numbers[17] = edge(set, i, z, m) as u8;
+    numbers[16] = largest(set, i, z, m, Number::Inner) as u8;
+    numbers[17] = largest(set, i, z, m, Number::Edge) as u8;
     numbers
 }
 
@@ -82,7 +82,7 @@ fn put_record(buffer: &mut [u8], row: usize, numbers: [u8; 18])
 }
 
 // The row file with the largest numbers, at the front of a buffer.
-pub fn put_rows(set: &[u8], m: usize, rows: usize, buffer: &mut [u8])
+pub(crate) fn put_rows(set: &[u8], m: usize, rows: usize, buffer: &mut [u8])
     requires { ⌜ PutRows (now set) m rows (now buffer) ⌝ }
     ensures { λ _. ⌜ now (buffer .exit) ≡ over (rowFile (keywords (now (set .entry)))) (now (buffer .entry)) ⌝ }
 {

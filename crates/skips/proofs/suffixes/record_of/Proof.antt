@@ -2,7 +2,7 @@
 use Prim.Native.Nat.{_-_}
 use native.Mathlib.Omega.{arith}
 use denote.Ref.{now}
-use Rattle.skips.specs.Suffixes.{suffixAt, recordFor}
+use Rattle.skips.specs.Suffixes.{suffixAt, recordFor, largestOf}
 use Rattle.skips.proofs.Matches.{Measured, measured, listed-whole, suffix-length, suffix-short}
 use Rattle.skips.proofs.Spelling.{Spelled, spelled-none, spelled-more, spelled-all, suffix-at}
 use Rattle.skips.proofs.suffixes.record_of.Statement.{statement}
@@ -71,8 +71,8 @@ loop-again c =
     let byte = suffix-at ok (long (d .before) .one) (d .loop .k) (c .before .loop-test .taken) in
     spelled-more (d .loop .inv) _ byte (omega (arith, suffix-length ok))
 
-inner-requires : tie.Need-inner-requires Inv-loop μ-loop
-inner-requires c κs = c .before .before .before .before .pre
+largest-requires : tie.Need-largest-requires Inv-loop μ-loop
+largest-requires c κs = c .before .before .before .before .pre
 
 cast-numbers-2 : tie.Need-cast-numbers-2 Inv-loop μ-loop
 cast-numbers-2 c = omega arith
@@ -80,8 +80,8 @@ cast-numbers-2 c = omega arith
 array-write-numbers-3 : tie.Need-array-write-numbers-3 Inv-loop μ-loop
 array-write-numbers-3 c = omega arith
 
-edge-requires : tie.Need-edge-requires Inv-loop μ-loop
-edge-requires c κs = c .before .before .before .before .before .pre
+largest-requires-2 : tie.Need-largest-requires-2 Inv-loop μ-loop
+largest-requires-2 c κs = c .before .before .before .before .before .pre
 
 cast-numbers-3 : tie.Need-cast-numbers-3 Inv-loop μ-loop
 cast-numbers-3 c = omega arith
@@ -90,11 +90,11 @@ array-write-numbers-4 : tie.Need-array-write-numbers-4 Inv-loop μ-loop
 array-write-numbers-4 c = omega arith
 
 returns : tie.Need-returns Inv-loop μ-loop
-unfolding recordFor
+unfolding recordFor largestOf
 returns c =
     let d = c .before .before in
     let size = suffix-length (d .before .before .before .before .pre .0) in
-    rw (c .before .inner .ensures .0, c .edge .ensures .0) (spelled-all (d .before .loop .inv) (omega (arith, size)) _ _)
+    rw (c .before .largest .ensures .0, c .largest2 .ensures .0) (spelled-all (d .before .loop .inv) (omega (arith, size)) _ _)
 
 pub record-of-spec : {M : Type 1} → statement M
 record-of-spec =
@@ -117,10 +117,10 @@ record-of-spec =
     add-k
     loop-less
     loop-again
-    inner-requires
+    largest-requires
     cast-numbers-2
     array-write-numbers-3
-    edge-requires
+    largest-requires-2
     cast-numbers-3
     array-write-numbers-4
     returns)

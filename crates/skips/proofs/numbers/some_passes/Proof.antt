@@ -1,4 +1,4 @@
--- No keyword passed has the suffix with n bytes after it, so one that does decides, and none does where all were passed.
+-- No keyword before k stops the search, so one that does decides, and none does where all were passed.
 use Prim.Native.Nat.{_-_, _≤_}
 use native.Mathlib.Omega.{arith}
 use mathlib.Core.Path.{_≡_, sym, _∙_}
@@ -6,33 +6,32 @@ use mathlib.Core.Bool.{false}
 use denote.Ref.{now}
 use Rattle.rules.specs.Strings.{any}
 use Rattle.rules.specs.Sets.{Keyword, keywordsFrom}
-use Rattle.rules.specs.Skips.{holdsBefore}
 use Rattle.rules.proofs.Sets.{length-keywords}
 use Rattle.rules.proofs.Searches.{some-none, some-more, some-once, some-all}
-use Rattle.skips.specs.Suffixes.{suffixAt, someHolds}
-use Rattle.skips.proofs.numbers.some_holds.Statement.{statement}
-use Rattle.skips.proofs.numbers.some_holds.Tie as tie
+use Rattle.skips.specs.Suffixes.{suffixAt, testOf, somePasses}
+use Rattle.skips.proofs.numbers.some_passes.Statement.{statement}
+use Rattle.skips.proofs.numbers.some_passes.Tie as tie
 
 abbrev Inv-loop : tie.InvT-loop
-Inv-loop set i z n count k₀ k =
-    (k ≤ count) × (any (λ (l : Keyword). holdsBefore (suffixAt set i z) n (l .word)) (keywordsFrom 0 k set) ≡ false)
+Inv-loop set i z n which count k₀ k =
+    (k ≤ count) × (any (λ (l : Keyword). testOf which (suffixAt set i z) n (l .word)) (keywordsFrom 0 k set) ≡ false)
 
 abbrev μ-loop : tie.MeasureT-loop
-μ-loop set i z n count k₀ k = count - k
+μ-loop set i z n which count k₀ k = count - k
 
 loop-holds : tie.Need-loop-holds Inv-loop μ-loop
 loop-holds c = (omega arith, some-none _ _)
 
-holds-before-requires : tie.Need-holds-before-requires Inv-loop μ-loop
-holds-before-requires c κs =
+passes-requires : tie.Need-passes-requires Inv-loop μ-loop
+passes-requires c κs =
     let d = c .before .before .before in
     let known = d .pre in
     (known .0, record { passed = known .0 .listed .passed; within = omega (arith, length-keywords (now (d .args .set))) }, known .1)
 
 returns : tie.Need-returns Inv-loop μ-loop
-unfolding someHolds
+unfolding somePasses
 returns c =
-    sym (some-once _ _ _ (c .before .before .loop-test .taken) (sym (c .before .holds-before .ensures) ∙ c .if1 .taken))
+    sym (some-once _ _ _ (c .before .before .loop-test .taken) (sym (c .before .passes .ensures) ∙ c .if1 .taken))
 
 add-k : tie.Need-add-k Inv-loop μ-loop
 add-k c = omega arith
@@ -43,21 +42,21 @@ loop-less c = omega arith
 loop-again : tie.Need-loop-again Inv-loop μ-loop
 loop-again c = (
   omega arith,
-  some-more _ _ _ (c .before .before .before .loop .inv .1) (sym (c .before .holds-before .ensures) ∙ c .if1 .left),
+  some-more _ _ _ (c .before .before .before .loop .inv .1) (sym (c .before .passes .ensures) ∙ c .if1 .left),
 )
 
 returns-2 : tie.Need-returns-2 Inv-loop μ-loop
-unfolding someHolds
+unfolding somePasses
 returns-2 c = sym (some-all _ _ _ (omega arith) (c .before .loop .inv .1))
 
-pub some-holds-spec : {M : Type 1} → statement M
-some-holds-spec =
+pub some-passes-spec : {M : Type 1} → statement M
+some-passes-spec =
     tie.close
     (tie.spec
     Inv-loop
     μ-loop
     loop-holds
-    holds-before-requires
+    passes-requires
     returns
     add-k
     loop-less

@@ -1,0 +1,64 @@
+-- The numbers are tried from 1 up: no keyword stops the search at a smaller one, until one does or m is reached.
+use Prim.Native.Nat.{_-_}
+use native.Mathlib.Omega.{arith}
+use mathlib.Core.Path.{sym, _∙_}
+use denote.Ref.{now}
+use Rattle.rules.specs.Sets.{keywords, shortest}
+use Rattle.rules.proofs.Searches.{Searched, searched-none, searched-stop, searched-more, searched-all}
+use Rattle.skips.specs.Suffixes.{suffixAt, somePasses}
+use Rattle.skips.proofs.Bounds.{Bounded, shortest-bounded}
+use Rattle.skips.proofs.Matches.{largest-least}
+use Rattle.skips.proofs.numbers.largest.Statement.{statement}
+use Rattle.skips.proofs.numbers.largest.Tie as tie
+
+abbrev Inv-loop : tie.InvT-loop
+Inv-loop set i z m which n₀ n = Searched (shortest (keywords set)) (somePasses which (keywords set) (suffixAt set i z)) n
+
+abbrev μ-loop : tie.MeasureT-loop
+μ-loop set i z m which n₀ n = m - n
+
+-- m is from 1 to 15
+bounds : (c : tie.Start Inv-loop μ-loop) → Bounded (shortest (keywords (now (c .args .set))))
+bounds c = shortest-bounded (now (c .args .set)) (c .pre .0 .listed .passed)
+
+loop-holds : tie.Need-loop-holds Inv-loop μ-loop
+loop-holds c = searched-none _ _ (bounds (c .before) .low)
+
+some-passes-requires : tie.Need-some-passes-requires Inv-loop μ-loop
+some-passes-requires c κs = (c .before .before .before .pre .0, omega (arith, bounds (c .before .before .before)))
+
+returns : tie.Need-returns Inv-loop μ-loop
+returns c =
+    let d = c .before .before in
+    let found = sym (c .before .some-passes .ensures) ∙ c .if1 .taken in
+    (searched-stop (d .before .loop .inv) (omega arith) found ∙ sym (largest-least _ _ _), omega (arith, bounds (d .before .before .before)))
+
+add-n : tie.Need-add-n Inv-loop μ-loop
+add-n c = omega arith
+
+loop-less : tie.Need-loop-less Inv-loop μ-loop
+loop-less c = omega arith
+
+loop-again : tie.Need-loop-again Inv-loop μ-loop
+loop-again c =
+    searched-more (c .before .before .before .loop .inv) (omega arith) (sym (c .before .some-passes .ensures) ∙ c .if1 .left)
+
+returns-2 : tie.Need-returns-2 Inv-loop μ-loop
+returns-2 c = (
+  searched-all (c .before .loop .inv) (omega arith) ∙ sym (largest-least _ _ _),
+  omega (arith, c .before .loop .inv .high, bounds (c .before .before .before)),
+)
+
+pub largest-spec : {M : Type 1} → statement M
+largest-spec =
+    tie.close
+    (tie.spec
+    Inv-loop
+    μ-loop
+    loop-holds
+    some-passes-requires
+    returns
+    add-n
+    loop-less
+    loop-again
+    returns-2)
