@@ -6,43 +6,31 @@ use Rattle.rules.specs.declared.Refusal.the-variants.{SetEmpty, SetSize,
 use Rattle.rules.specs.declared.Scanned.{Scanned}
 use Rattle.rules.specs.declared.Tabled.{Tabled}
 
+-- document 01's table of refusals: the number, and the place or 0 where none is named
+abbrev pub numberAndPlace : Refusal → ℕ × ℕ
+numberAndPlace SetEmpty = (1, 0)
+numberAndPlace SetSize = (2, 0)
+numberAndPlace TooManyKeywords = (3, 0)
+numberAndPlace (Length i) = (4, i)
+numberAndPlace (Padding i) = (5, i)
+numberAndPlace (Repeated i) = (6, i)
+numberAndPlace TooManyRows = (7, 0)
+numberAndPlace TraceTooLong = (8, 0)
+numberAndPlace (WorkspaceShort n) = (9, n)
+numberAndPlace (RowFileSize n) = (10, n)
+numberAndPlace (RowNamesAnother i) = (11, i)
+numberAndPlace (RowNumber i) = (12, i)
+numberAndPlace ByteFileSize = (13, 0)
+numberAndPlace (FarNumber p) = (14, p)
+numberAndPlace (RowBufferShort n) = (15, n)
+numberAndPlace ByteBufferShort = (16, 0)
+numberAndPlace AnswerShort = (17, 0)
+
 abbrev pub numberOf : Refusal → ℕ
-numberOf SetEmpty = 1
-numberOf SetSize = 2
-numberOf TooManyKeywords = 3
-numberOf (Length i) = 4
-numberOf (Padding i) = 5
-numberOf (Repeated i) = 6
-numberOf TooManyRows = 7
-numberOf TraceTooLong = 8
-numberOf (WorkspaceShort n) = 9
-numberOf (RowFileSize n) = 10
-numberOf (RowNamesAnother i) = 11
-numberOf (RowNumber i) = 12
-numberOf ByteFileSize = 13
-numberOf (FarNumber p) = 14
-numberOf (RowBufferShort n) = 15
-numberOf ByteBufferShort = 16
-numberOf AnswerShort = 17
+numberOf r = numberAndPlace r .0
 
 abbrev pub placeOf : Refusal → ℕ
-placeOf SetEmpty = 0
-placeOf SetSize = 0
-placeOf TooManyKeywords = 0
-placeOf (Length i) = i
-placeOf (Padding i) = i
-placeOf (Repeated i) = i
-placeOf TooManyRows = 0
-placeOf TraceTooLong = 0
-placeOf (WorkspaceShort n) = n
-placeOf (RowFileSize n) = n
-placeOf (RowNamesAnother i) = i
-placeOf (RowNumber i) = i
-placeOf ByteFileSize = 0
-placeOf (FarNumber p) = p
-placeOf (RowBufferShort n) = n
-placeOf ByteBufferShort = 0
-placeOf AnswerShort = 0
+placeOf r = numberAndPlace r .1
 
 -- an answer in document 01's numbers; number 0 is no refusal
 pub record Told : Type 0 where
