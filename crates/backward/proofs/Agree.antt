@@ -1,20 +1,23 @@
 -- The two scans agree: where both accept their inputs, each answers the count and the energy of the one hit list, and writes that
--- list into the hit buffer.
-use Prim.Native.Nat.{ℕ}
+-- list into the hit buffer, which passes the audit.
+use Prim.Native.Nat.{ℕ, _<_}
 use mathlib.Core.Path.{_≡_, sym, _∙_, ap}
-use mathlib.Core.Logic.{⊎-elim}
 use mathlib.Core.List.{List}
-use lib.ListN.{length}
+use lib.ListN.{length, getD}
 use Rattle.rules.specs.declared.Totals.{Totals}
 use Rattle.rules.specs.declared.Scanned.{Scanned}
+use Rattle.rules.specs.Limits.{opcodes}
 use Rattle.rules.specs.Sets.{keywords}
-use Rattle.rules.specs.Rows.{forward, backward}
+use Rattle.rules.specs.Rows.{backward}
 use Rattle.rules.specs.Hits.{hits, hitBuffer}
-use Rattle.rules.specs.Refusals.{Verdict, pass, refuse}
+use Rattle.rules.specs.Audit.{Audited}
+use Rattle.rules.specs.Refusals.{pass}
 use Rattle.rules.specs.Answers.{Told, told}
 use Rattle.rules.specs.Promises.{Forward, Backward, onPass, kept, answerOr, forwardTold, forwardVerdict, backwardTold, backwardEntry, backwardVerdict}
-use Rattle.rules.proofs.Verdicts.{verdict-cases}
-use Rattle.rules.proofs.Refused.{Numbered, numbered-both, numbered-set, numbered-trace, numbered-workspace, numbered-table}
+use Rattle.rules.proofs.Verdicts.{orElse-pass}
+use Rattle.rules.proofs.Sets.{set-passed}
+use Rattle.rules.proofs.Refused.{forward-passed, backward-passed}
+use Rattle.rules.proofs.Audited.{hits-audited}
 
 -- the same count and energy, and the same numbers in the hit buffer
 pub record Agreed (a b : Told) (hs hs′ : List ℕ) : Type 0 where
@@ -38,29 +41,22 @@ module _ {s t hs : List ℕ} {ws ws′ fs : List ℕ} {rowf bytef vs vs′ bs : 
         listed = left ∙ sym right;
       }
 
--- An answer that is no refusal has the number 0, which no refusal has: so its tests passed.
-accepted : (x : Totals) (a : Told) (v : Verdict) → Numbered v → told (Scanned.Found x) ≡ answerOr a v → v ≡ pass
-unfolding answerOr onPass
-accepted x a v numbered e =
-    ⊎-elim (λ p. p)
-    (λ w.
-    let none : 0 ≡ w .0 = ap (λ (b : Told). b .number) (rw (w .2) at e) in
-    absurd (numbered (w .1) (w .2 ∙ ap (λ (n : ℕ). refuse n (w .1)) (sym none))))
-    (verdict-cases v)
-
--- so it is enough that both found something out
+-- it is enough that both found something out
 pub found-agree : {s t hs ws ws′ fs rowf bytef vs vs′ bs : List ℕ} {x y : Totals}
     → Forward s t ws hs (told (Scanned.Found x)) ws′ fs
     → Backward s t rowf bytef vs hs (told (Scanned.Found y)) vs′ bs
     → Agreed (told (Scanned.Found x)) (told (Scanned.Found y)) fs bs
-unfolding forwardVerdict backwardVerdict backwardEntry
-found-agree {s} {t} {ws = ws} {rowf = rowf} {bytef = bytef} {vs = vs} {x = x} {y = y} one two =
-    scans-agree one two
-    (accepted x _ _
-    (numbered-both _ _ (numbered-set forward s) (numbered-both _ _ (numbered-trace t) (numbered-workspace forward s (length ws))))
-    (one .answered))
-    (accepted y _ _
-    (numbered-both _ _
-    (numbered-both _ _ (numbered-set backward s) (numbered-both _ _ (numbered-trace t) (numbered-workspace backward s (length vs))))
-    (numbered-table (keywords s) rowf bytef))
-    (two .answered))
+found-agree {x = x} {y = y} one two = scans-agree one two (forward-passed x one) (backward-passed y two)
+
+-- demand 2: the hit buffer of the backward scan
+pub backward-audited : {s t rowf bytef vs hs vs′ hs′ : List ℕ} (totals : Totals)
+    → Backward s t rowf bytef vs hs (told (Scanned.Found totals)) vs′ hs′
+    → ((i : ℕ) → getD s i 0 < opcodes)
+    → Audited s t hs (totals .count) hs′
+unfolding answerOr kept onPass backwardTold backwardVerdict backwardEntry
+backward-audited {s} {t} {rowf} {bytef} {vs} {hs} {vs′} {hs′} totals promise bytes =
+    let passed : backwardVerdict s t rowf bytef (length vs) ≡ pass = backward-passed totals promise in
+    let answer : told (Scanned.Found totals) ≡ backwardTold s t rowf bytef = promise .answered ∙ rw passed in
+    let written : hs′ ≡ hitBuffer (hits (keywords s) t) hs = promise .listed ∙ rw passed in
+    let entry = orElse-pass _ _ (orElse-pass _ _ passed .0) .0 in
+    hits-audited s t hs (ap (λ (a : Told). a .count) answer) written bytes (set-passed backward s entry .file)

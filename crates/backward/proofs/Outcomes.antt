@@ -13,7 +13,7 @@ use Rattle.rules.specs.Hits.{over}
 use Rattle.rules.specs.Refusals.{pass, refuse, orElse, tableVerdict}
 use Rattle.rules.specs.Answers.{told, numberOf, placeOf}
 use Rattle.rules.specs.Promises.{Backward, onPass, kept, answerOr, withRows, backwardTold, backwardEntry, backwardVerdict}
-use Rattle.rules.proofs.Sound.{Sound}
+use Rattle.rules.specs.Sound.{Sound}
 use Rattle.rules.proofs.Hits.{hits-few}
 use Rattle.rules.proofs.Runs.{run-asks}
 use Rattle.rows.proofs.Laying.{over-laid}

@@ -10,10 +10,11 @@ use Rattle.rules.specs.Sets.{Keyword, keywords, keywordAt}
 use Rattle.rules.specs.Rows.{backward}
 use Rattle.rules.specs.Hits.{Hit, hits}
 use Rattle.rules.specs.Runs.{edgeIn, windowAt, move, entered, windowHits, visits, runHits, asked, askedAll, runQuestions}
+use Rattle.rules.specs.Audit.{Accepted}
 use Rattle.rules.proofs.Hits.{hits-few, hits-occur, energy-most}
 use Rattle.rules.proofs.Rows.{rowOf-is, rowed-rows}
 use Rattle.rules.proofs.Windows.{window-reading, window-short}
-use Rattle.rules.proofs.Tables.{Accepted, accepted-exactly}
+use Rattle.rules.proofs.Tables.{accepted-exactly}
 use Rattle.rules.proofs.Runs.{Sure, accepted-sure, move-allowed, run-hits, run-asks}
 use Rattle.rules.proofs.Ahead.{ahead, ahead-none, ahead-more}
 use Rattle.hits.specs.declared.Tally.{Tally}

@@ -9,7 +9,7 @@ use Rattle.rules.specs.Rows.{backward}
 use Rattle.rules.specs.Hits.{Hit, hits, energy}
 use Rattle.rules.specs.Runs.{innerIn, edgeIn, farIn, Stop, start, missing, moveBy, runQuestions}
 use Rattle.rules.specs.Refusals.{pass, fileVerdict, tableVerdict}
-use Rattle.rules.proofs.Sound.{Sound}
+use Rattle.rules.specs.Sound.{Sound}
 use Rattle.rows.specs.Laid.{Laid}
 use Rattle.hits.specs.Tallies.{Tallied, hitOf}
 use Rattle.hits.specs.declared.Tally.{Tally}

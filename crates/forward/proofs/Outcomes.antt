@@ -13,12 +13,12 @@ use Rattle.rules.specs.Hits.{over}
 use Rattle.rules.specs.Refusals.{pass, refuse}
 use Rattle.rules.specs.Answers.{told, numberOf, placeOf}
 use Rattle.rules.specs.Promises.{Forward, onPass, kept, answerOr, withRows, forwardTold, forwardVerdict}
-use Rattle.rules.proofs.Sound.{Sound}
+use Rattle.rules.specs.Sound.{Sound}
 use Rattle.rules.proofs.Hits.{hits-few}
 use Rattle.rules.proofs.Questions.{questions-bound}
 use Rattle.rows.specs.declared.enter.Entered.{Entered}
 use Rattle.rows.specs.Entry.{enteredVerdict, Admission}
-use Rattle.rows.proofs.Admitted.{Admitted, entry-judged, entry-admitted}
+use Rattle.rows.proofs.Admitted.{Admitted, entry-admitted}
 use Rattle.rows.proofs.Laying.{over-laid}
 use Rattle.forward.specs.declared.Running.{Running}
 use Rattle.forward.specs.Running.{Scanning, Going}
@@ -26,7 +26,7 @@ use Rattle.forward.specs.Running.{Scanning, Going}
 -- the verdict of a job that has just entered
 pub forward-judged : (s t : List ℕ) (room : ℕ) {r : Entered} → Admission forward s (length t) room r → enteredVerdict r ≡ forwardVerdict s t room
 unfolding forwardVerdict
-forward-judged s t room a = entry-judged t a
+forward-judged s t room a = a .judged
 
 pub forward-admitted : (s t ws : List ℕ) → forwardVerdict s t (length ws) ≡ pass → Admitted forward s t ws
 unfolding forwardVerdict

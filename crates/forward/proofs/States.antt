@@ -14,7 +14,7 @@ use Rattle.rules.specs.Sets.{Keyword, keywords}
 use Rattle.rules.specs.Rows.{forward, starts, rowsOf, rowOf, failureCell}
 use Rattle.rules.specs.Hits.{hits, hitsAfter}
 use Rattle.rules.specs.Questions.{questionsAt, questionsAfter, questions}
-use Rattle.rules.proofs.Sound.{Sound}
+use Rattle.rules.specs.Sound.{Sound}
 use Rattle.rules.proofs.Rows.{root-row, rowed-rows, row-at, rowOf-is, rowOf-nil, starts-closed}
 use Rattle.rules.proofs.PrefixRows.{filled-rows, row-short}
 use Rattle.rules.proofs.State.{askedBy, asked-state, longest-nil, longest-passes, longest-state}

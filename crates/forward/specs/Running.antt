@@ -9,7 +9,7 @@ use Rattle.rules.specs.Sets.{Keyword, keywords}
 use Rattle.rules.specs.Rows.{forward, starts, rowsOf, rowOf}
 use Rattle.rules.specs.Hits.{hits}
 use Rattle.rules.specs.Questions.{questions}
-use Rattle.rules.proofs.Sound.{Sound}
+use Rattle.rules.specs.Sound.{Sound}
 use Rattle.rows.specs.Laid.{Laid}
 use Rattle.hits.specs.declared.Tally.{Tally}
 use Rattle.hits.specs.Tallies.{Tallied}

@@ -31,10 +31,10 @@ enough-room s t room enough =
     ⊎-elim
     (λ p.
     let few = set-passed forward s p .rows in
-    ap (λ v. orElse (setVerdict forward s) (orElse (traceVerdict t) v))
+    ap (λ v. orElse (setVerdict forward s) (orElse (traceVerdict (length t)) v))
     (refuseIf-false 9 _ (le-ltb room _ (omega (arith, few))))
-    ∙ ap (orElse (setVerdict forward s)) (orElse-right (traceVerdict t)))
-    (λ w. refuse-orElse _ (w .2) ∙ sym (refuse-orElse (traceVerdict t) (w .2)))
+    ∙ ap (orElse (setVerdict forward s)) (orElse-right (traceVerdict (length t))))
+    (λ w. refuse-orElse _ (w .2) ∙ sym (refuse-orElse (traceVerdict (length t)) (w .2)))
     (verdict-cases (setVerdict forward s))
 
 -- the answer b of the scan is told as a

@@ -10,16 +10,14 @@ use Rattle.rules.specs.declared.Refusal.the-variants.{TooManyRows, TraceTooLong
 use Rattle.rules.specs.Limits.{mostRows, longestTrace, rowCells}
 use Rattle.rules.specs.Sets.{keywords}
 use Rattle.rules.specs.Rows.{Way, rowsOf}
-use Rattle.rules.specs.Refusals.{pass, refuse, refuseIf, orElse, fileVerdict, rowsVerdict, setVerdict, workspaceVerdict}
+use Rattle.rules.specs.Refusals.{pass, refuse, refuseIf, orElse, fileVerdict, rowsVerdict, setVerdict, traceVerdict, workspaceVerdict, entryVerdict}
 use Rattle.rules.specs.Answers.{numberOf, placeOf}
 use Rattle.rows.specs.Entry.{enteredVerdict, Admission}
 use Rattle.rows.specs.declared.enter.Entered.the-variants.{Rows, Refused}
 
 module _ (way : Way) (s : List ℕ) (trace room : ℕ) where
   -- a refusal counts no rows
-  refused : {r : Refusal}
-      → enteredVerdict (Refused r) ≡ orElse (setVerdict way s) (orElse (refuseIf (lib.Dec.ltb longestTrace trace) 8 0) (workspaceVerdict way s room))
-      → Admission way s trace room (Refused r)
+  refused : {r : Refusal} → enteredVerdict (Refused r) ≡ entryVerdict way s trace room → Admission way s trace room (Refused r)
   refused p =
       record {
         judged = p;
@@ -37,18 +35,18 @@ module _ (way : Way) (s : List ℕ) (trace room : ℕ) where
 
     module _ (few : rows ≤ mostRows) where
       pub admission-trace : longestTrace < trace → Admission way s trace room (Refused TraceTooLong)
-      unfolding enteredVerdict setVerdict rowsVerdict orElse refuseIf
+      unfolding enteredVerdict setVerdict rowsVerdict traceVerdict orElse refuseIf
       admission-trace h = refused (rw (passed, ← counted, le-ltb mostRows rows few, lt-ltb longestTrace trace h))
 
       module _ (short : trace ≤ longestTrace) where
         pub admission-room : room < rowCells * rows → Admission way s trace room (Refused (WorkspaceShort rows))
-        unfolding enteredVerdict setVerdict rowsVerdict workspaceVerdict orElse refuseIf
+        unfolding enteredVerdict setVerdict rowsVerdict traceVerdict workspaceVerdict orElse refuseIf
         admission-room h =
             refused
             (rw (passed, ← counted, le-ltb mostRows rows few, le-ltb longestTrace trace short, lt-ltb room (rowCells * rows) h))
 
         pub admission-pass : rowCells * rows ≤ room → Admission way s trace room (Rows rows)
-        unfolding enteredVerdict setVerdict rowsVerdict workspaceVerdict orElse refuseIf
+        unfolding enteredVerdict setVerdict rowsVerdict traceVerdict workspaceVerdict orElse refuseIf
         admission-pass h =
             record {
               judged = rw (passed, ← counted, le-ltb mostRows rows few, le-ltb longestTrace trace short, le-ltb room (rowCells * rows) h);

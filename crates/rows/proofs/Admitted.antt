@@ -7,26 +7,16 @@ use borrow.Author.Tests.{ltb-false}
 use Rattle.rules.specs.Limits.{longestTrace, rowCells}
 use Rattle.rules.specs.Sets.{keywords}
 use Rattle.rules.specs.Rows.{Way, rowsOf}
-use Rattle.rules.specs.Refusals.{Verdict, pass, orElse, fileVerdict, setVerdict, traceVerdict, workspaceVerdict}
+use Rattle.rules.specs.Refusals.{pass, fileVerdict, traceVerdict, workspaceVerdict, entryVerdict}
 use Rattle.rules.proofs.Verdicts.{orElse-pass, refuseIf-pass}
 use Rattle.rules.proofs.Sets.{set-passed}
-use Rattle.rows.specs.declared.enter.Entered.{Entered}
-use Rattle.rows.specs.Entry.{enteredVerdict, Admission}
-
--- the tests 1 to 9
-abbrev pub entryVerdict : Way → List ℕ → List ℕ → ℕ → Verdict
-entryVerdict way s t room = orElse (setVerdict way s) (orElse (traceVerdict t) (workspaceVerdict way s room))
-
-pub entry-judged : {way : Way} {s : List ℕ} (t : List ℕ) {room : ℕ} {r : Entered} → Admission way s (length t) room r → enteredVerdict r ≡ entryVerdict way s t room
-unfolding traceVerdict
-entry-judged t admission = admission .judged
 
 pub record Admitted (way : Way) (s t ws : List ℕ) : Type 0 where
   pub file : fileVerdict s ≡ pass
   pub near : length t ≤ longestTrace
   pub room : rowCells * length (rowsOf way (keywords s)) ≤ length ws
 
-pub entry-admitted : (way : Way) (s t ws : List ℕ) → entryVerdict way s t (length ws) ≡ pass → Admitted way s t ws
+pub entry-admitted : (way : Way) (s t ws : List ℕ) → entryVerdict way s (length t) (length ws) ≡ pass → Admitted way s t ws
 unfolding traceVerdict workspaceVerdict
 entry-admitted way s t ws p =
     let a = orElse-pass _ _ p in

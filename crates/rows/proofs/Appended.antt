@@ -12,9 +12,9 @@ use borrow.Author.Tests.{eqb-true, eqb-false, eq-eqb, ne-eqb, ltb-true, ltb-fals
 use Rattle.rules.specs.Limits.{rowCells}
 use Rattle.rules.specs.Strings.{same, any}
 use Rattle.rules.specs.Sets.{Keyword}
-use Rattle.rules.specs.Rows.{Way, placeFrom, childOf, siblingAfter, keyOf}
+use Rattle.rules.specs.Rows.{Way, placeFrom, childOf, siblingAfter, keyOf, Rowed}
 use Rattle.rules.proofs.Strings.{either}
-use Rattle.rules.proofs.Rows.{Rowed, Stands, old-place, new-place, at-snoc, row-at, rowed-more}
+use Rattle.rules.proofs.Rows.{Stands, old-place, new-place, at-snoc, row-at, rowed-more}
 use Rattle.rules.proofs.Children.{places, placeFrom-head, children-none, new-child, new-sibling, lastByte, lastByte-snoc, last-only, child-linked, child-kept, sibling-linked, sibling-kept}
 use Rattle.rows.specs.declared.tree.Asked.{Asked}
 use Rattle.rows.specs.Tree.{Column, Tree, Held, Answered, Beyond, byteOf, childrenOf, siblingsOf, lastFrom, appended}

@@ -8,10 +8,10 @@ use lib.ListN.{length, getD, set, length-append}
 use Rattle.rules.specs.Limits.{rowCells}
 use Rattle.rules.specs.Strings.{same, any, longestBehind}
 use Rattle.rules.specs.Sets.{Keyword, isKeyword}
-use Rattle.rules.specs.Rows.{forward, starts, readBy, rowsOf, rowOf, keyOf, failureCell, dictionaryCell}
+use Rattle.rules.specs.Rows.{forward, starts, readBy, rowsOf, rowOf, keyOf, failureCell, dictionaryCell, Rowed}
 use Rattle.rules.proofs.Strings.{either, passes}
-use Rattle.rules.proofs.Sound.{Sound}
-use Rattle.rules.proofs.Rows.{Rowed, rowOf-is, rowOf-nil, rowOf-none}
+use Rattle.rules.specs.Sound.{Sound}
+use Rattle.rules.proofs.Rows.{rowOf-is, rowOf-nil, rowOf-none}
 use Rattle.rules.proofs.PrefixRows.{filled-rows, row-short}
 use Rattle.rules.proofs.Children.{row-filled}
 use Rattle.rules.proofs.Keys.{no-keyword-no-key, no-key-no-keyword}

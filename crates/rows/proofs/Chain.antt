@@ -7,9 +7,9 @@ use mathlib.Core.List.{List, [], _∷_, _++_}
 use lib.ListN.{length, getD, length-append}
 use Rattle.rules.specs.Limits.{rowCells}
 use Rattle.rules.specs.Strings.{same, any, longest, longestBehind}
-use Rattle.rules.specs.Rows.{rowOf}
+use Rattle.rules.specs.Rows.{rowOf, Rowed}
 use Rattle.rules.proofs.Strings.{passes, fails}
-use Rattle.rules.proofs.Rows.{Rowed, row-at, rowOf-is, rowOf-nil, rowOf-pos, rowOf-none, root-row}
+use Rattle.rules.proofs.Rows.{row-at, rowOf-is, rowOf-nil, rowOf-pos, rowOf-none, root-row}
 use Rattle.rules.proofs.Children.{row-filled}
 use Rattle.rules.proofs.State.{Closed, askedBy, longest-of, longest-falls, longest-one, asked-nil, asked-extends, asked-falls, behind-length, behind-passes}
 use Rattle.rows.specs.declared.tree.Asked.{Asked}

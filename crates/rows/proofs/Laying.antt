@@ -12,7 +12,7 @@ use Rattle.rules.specs.Strings.{longestBehind}
 use Rattle.rules.specs.Sets.{Keyword}
 use Rattle.rules.specs.Rows.{Way, forward, backward, rowsOf, keyOf, failureCell, dictionaryCell, cellsAt, cellsFrom, cells}
 use Rattle.rules.specs.Hits.{over}
-use Rattle.rules.proofs.Sound.{Sound}
+use Rattle.rules.specs.Sound.{Sound}
 use Rattle.rules.proofs.Rows.{rowed-rows, rowOf-nil, row-at}
 use Rattle.rules.proofs.Keys.{key-nil}
 use Rattle.rules.proofs.PrefixRows.{row-short}

@@ -11,10 +11,10 @@ use lib.Seq.{take-suc, take-all}
 use Rattle.rules.specs.Limits.{recordSize, rowCells, longestWord, mostRows}
 use Rattle.rules.specs.Strings.{same, any}
 use Rattle.rules.specs.Sets.{keywordOf, keywordsFrom, keywordAt, recordAt, isKeyword}
-use Rattle.rules.specs.Rows.{Way, prefixes, meet, rowsOf, rowOf, keyOf}
+use Rattle.rules.specs.Rows.{Way, prefixes, meet, rowsOf, rowOf, keyOf, Rowed}
 use Rattle.rules.proofs.Strings.{or-fails-left}
 use Rattle.rules.proofs.Sets.{record-passed, records-passed, keywords-more}
-use Rattle.rules.proofs.Rows.{Rowed, rowed-rows, rowed-meet, root-row, meet-snoc, meet-old, meet-new, meet-has, meet-reads, rowsOf-snoc, rows-below, total, total-append, rows-bound, rowOf-is, rowOf-nil, rowOf-new}
+use Rattle.rules.proofs.Rows.{rowed-rows, rowed-meet, root-row, meet-snoc, meet-old, meet-new, meet-has, meet-reads, rowsOf-snoc, rows-below, total, total-append, rows-bound, rowOf-is, rowOf-nil, rowOf-new}
 use Rattle.rules.proofs.Keys.{keyOf-new, keyOf-fresh}
 use Rattle.sets.specs.Words.{Good, readAt}
 use Rattle.sets.proofs.Records.{word-length}

@@ -8,9 +8,9 @@ use mathlib.Core.List.{List, [], _∷_, _++_, List·Memᴰ, List·Memᴰ·head, 
 use lib.ListN.{length, getD, drop, length-append}
 use Rattle.rules.specs.Limits.{rowCells}
 use Rattle.rules.specs.Strings.{same, any, keep, countTo}
-use Rattle.rules.specs.Rows.{placeFrom, childOf, siblingAfter}
+use Rattle.rules.specs.Rows.{placeFrom, childOf, siblingAfter, Rowed}
 use Rattle.rules.proofs.Strings.{either, passes, fails, same-true, eq-same}
-use Rattle.rules.proofs.Rows.{Rowed, by-snoc, rowOf-is, rowOf-none, rowOf-pos}
+use Rattle.rules.proofs.Rows.{by-snoc, rowOf-is, rowOf-none, rowOf-pos}
 use Rattle.rules.proofs.Children.{places, Next, Asking, places-end, places-mem, places-at, children-first, child-last, lastByte, lastByte-snoc, asking-start, asking-none, asking-at, asking-found, asking-on}
 use Rattle.rules.proofs.Listed.{keep-first, keep-next, keep-end}
 use Rattle.rows.specs.declared.tree.Asked.{Asked}

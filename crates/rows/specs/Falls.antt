@@ -8,7 +8,7 @@ use Rattle.rules.specs.Limits.{rowCells, longestWord}
 use Rattle.rules.specs.Strings.{same, any, keep, countTo, suffixes, longest, longestBehind}
 use Rattle.rules.specs.Sets.{Keyword}
 use Rattle.rules.specs.Rows.{forward, rowsOf, rowOf, keyOf, failureCell, dictionaryCell}
-use Rattle.rules.proofs.Sound.{Sound}
+use Rattle.rules.specs.Sound.{Sound}
 use Rattle.rows.specs.Tree.{Column, Tree}
 use Rattle.rows.specs.declared.failures.Advanced.{Advanced}
 

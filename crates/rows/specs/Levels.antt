@@ -7,7 +7,7 @@ use Rattle.rules.specs.Limits.{longestWord}
 use Rattle.rules.specs.Sets.{keywords, keywordAt}
 use Rattle.rules.specs.Rows.{forward, rowsOf, rowOf}
 use Rattle.rules.specs.Refusals.{pass, fileVerdict}
-use Rattle.rules.proofs.Sound.{Sound}
+use Rattle.rules.specs.Sound.{Sound}
 use Rattle.rows.specs.Tree.{Beyond}
 use Rattle.rows.specs.Falls.{Filling}
 use Rattle.rows.specs.declared.levels.Standing.{Standing}

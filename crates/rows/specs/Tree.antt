@@ -9,8 +9,7 @@ use lib.Dec.{eqb}
 use Rattle.rules.specs.Limits.{rowCells}
 use Rattle.rules.specs.Strings.{same, any, keep, countTo}
 use Rattle.rules.specs.Sets.{Keyword}
-use Rattle.rules.specs.Rows.{Way, rowOf, placeFrom, childOf, siblingAfter, keyOf}
-use Rattle.rules.proofs.Rows.{Rowed}
+use Rattle.rules.specs.Rows.{Way, rowOf, placeFrom, childOf, siblingAfter, keyOf, Rowed}
 use Rattle.rows.specs.declared.tree.Asked.{Asked}
 
 -- number j of each of the first n rows is what f says

@@ -6,7 +6,7 @@ use lib.ListN.{getD}
 use Rattle.rules.specs.Limits.{opcodes}
 use Rattle.rules.specs.Sets.{keywords}
 use Rattle.rules.specs.Refusals.{pass, fileVerdict}
-use Rattle.rules.proofs.Sound.{Sound}
+use Rattle.rules.specs.Sound.{Sound}
 use Rattle.rules.proofs.Sets.{file-sound}
 
 pub mem-below : (n : ℕ) {b : ℕ} {s : List ℕ} → List·Memᴰ b s → ((i : ℕ) → getD s i 0 < n) → b < n

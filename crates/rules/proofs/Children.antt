@@ -13,9 +13,9 @@ use native.Mathlib.Nat.{zero-add}
 use native.Mathlib.Omega.{arith}
 use borrow.Author.Tests.{eqb-true, eq-eqb, ne-eqb}
 use Rattle.rules.specs.Strings.{same, begins, any}
-use Rattle.rules.specs.Rows.{placeFrom, rowOf, childOf, parent, siblingAfter}
+use Rattle.rules.specs.Rows.{placeFrom, rowOf, childOf, parent, siblingAfter, Rowed}
 use Rattle.rules.proofs.Strings.{either, never, fails, same-outcome, and-left, and-right, and-both, or-fails-left, or-fails-right, same-true, same-refl, eq-same, begins-true, begins-append, any-true, any-mem, any-append}
-use Rattle.rules.proofs.Rows.{Rowed, by-snoc, row-at, parent-snoc, snoc-parts, Placed, placed, placeFrom-none, placeFrom-append, rowOf-is, rowOf-at}
+use Rattle.rules.proofs.Rows.{by-snoc, row-at, parent-snoc, snoc-parts, Placed, placed, placeFrom-none, placeFrom-append, rowOf-is, rowOf-at}
 
 -- the numbers of the rows that pass, counted from n on
 unfoldable pub places : ℕ → (List ℕ → Bool) → List (List ℕ) → List ℕ

@@ -6,10 +6,9 @@ use mathlib.Core.Bool.{Bool, false, _||_, or-false}
 use mathlib.Core.List.{List, [], _∷_, _++_}
 use lib.ListN.{length}
 use lib.Dec.{eqb, eqb·suc-suc, eqb·zero-suc}
-use Rattle.rules.specs.Strings.{same, any}
+use Rattle.rules.specs.Strings.{same, any, common}
 use Rattle.rules.specs.Sets.{Keyword, shortest, isKeyword}
 use Rattle.rules.proofs.Strings.{either, fails, same-true, any-append}
-use Rattle.rules.proofs.Count.{common}
 
 -- words of one length are the same where they are common to their end
 pub same-common : (a b : List ℕ) → length a ≡ length b → same a b ≡ eqb (common a b) (length b)

@@ -8,21 +8,11 @@ use lib.ListN.{length, length-append}
 use lib.Dec.{eqb}
 use borrow.Author.Tests.{eqb-true, eq-eqb}
 use native.Mathlib.Omega.{arith}
-use Rattle.rules.specs.Strings.{same, begins, any}
+use Rattle.rules.specs.Strings.{same, begins, any, common, mostCommon}
 use Rattle.rules.specs.Sets.{Keyword}
 use Rattle.rules.specs.Rows.{Way, readBy, prefixes, meet, meetWords, rowsOf}
 use Rattle.rules.proofs.Strings.{either, fails, same-outcome, same-true, begins-true}
 use Rattle.rules.proofs.Rows.{by-snoc, any-weaken, begins-closed, meet-snoc, meet-old, meet-new, meet-prefixes-has, words-are, rowsOf-snoc, readBy-length, rowed-nil, rowed-words, root-row}
-
--- how long the longest common beginning of two words is, and of a word with any of the words
-unfoldable pub common : List ℕ → List ℕ → ℕ
-common [] b = 0
-common (x ∷ a) [] = 0
-common (x ∷ a) (y ∷ b) = cond (eqb x y) (suc (common a b)) 0
-
-unfoldable pub mostCommon : List (List ℕ) → List ℕ → ℕ
-mostCommon [] w = 0
-mostCommon (v ∷ vs) w = max (common v w) (mostCommon vs w)
 
 pub common-nil : (a : List ℕ) → common a [] ≡ 0
 unfolding common

@@ -2,7 +2,6 @@
 pub mod Lists
 pub mod Strings
 pub mod Parts
-pub mod Sound
 pub mod Verdicts
 pub mod Sets
 pub mod Refused
@@ -22,6 +21,7 @@ pub mod Orders
 pub mod Hits
 pub mod Buffers
 pub mod Pairs
+pub mod Audited
 pub mod KeyNumbers
 pub mod Least
 pub mod Searches

@@ -8,9 +8,8 @@ use mathlib.Core.List.{List, [], _∷_, map}
 use lib.ListN.{getD, drop}
 use lib.Seq.{getD-drop}
 use Rattle.rules.specs.Strings.{keep}
-use Rattle.rules.specs.Rows.{placeFrom, childOf}
+use Rattle.rules.specs.Rows.{placeFrom, childOf, Rowed}
 use Rattle.rules.proofs.Strings.{either}
-use Rattle.rules.proofs.Rows.{Rowed}
 use Rattle.rules.proofs.Children.{places, Next, places-end, children-first}
 
 -- what is kept, by any way to read a row from its place

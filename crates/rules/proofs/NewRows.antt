@@ -7,7 +7,7 @@ use mathlib.Core.Path.{_≡_, refl, sym, _∙_, ap}
 use mathlib.Core.List.{List, [], _∷_, _++_, map, append-nil, append-assoc}
 use lib.ListN.{length, take, drop, getD, length-append, length-drop, drop-of-length-le, List·getD-append}
 use lib.Seq.{drop-nil, drop-append-le, getD-drop, getD-append-add}
-use Rattle.rules.specs.Strings.{begins, any}
+use Rattle.rules.specs.Strings.{begins, any, mostCommon}
 use Rattle.rules.specs.Limits.{recordSize}
 use Rattle.rules.specs.Sets.{Keyword, keywords, keywordsFrom, keywordAt, recordAt}
 use Rattle.rules.specs.Rows.{Way, readBy, prefixes, meet, meetWords, rowsOf}
@@ -15,7 +15,7 @@ use Rattle.rules.proofs.Strings.{either}
 use Rattle.rules.proofs.Parts.{getD-map-within}
 use Rattle.rules.proofs.Sets.{keywordsFrom-append}
 use Rattle.rules.proofs.Rows.{by-snoc, any-weaken, begins-closed, prefixes-snoc, length-prefixes, meet-snoc, meet-old, meet-new, rowsOf-keeps, readBy-length}
-use Rattle.rules.proofs.Count.{mostCommon, mostCommon-le, mostCommon-snoc, mostCommon-whole, met}
+use Rattle.rules.proofs.Count.{mostCommon-le, mostCommon-snoc, mostCommon-whole, met}
 
 pub prefixes-at : (w : List ℕ) (i : ℕ) → i < length w → getD (prefixes w) i [] ≡ take (suc i) w
 unfolding prefixes

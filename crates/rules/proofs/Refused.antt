@@ -1,20 +1,24 @@
 -- No refusal has the number 0, which says that there is none: each test's number is in the table, and so is the first's.
 use Prim.Native.Nat.{ℕ, zero, suc, _≤_, _/_}
-use mathlib.Core.Path.{_≡_}
+use mathlib.Core.Path.{_≡_, refl, sym, ap}
 use mathlib.Core.Bool.{Bool, true, false}
 use mathlib.Core.List.{List, [], _++_, _∷_}
 use lib.ListN.{length, take, drop}
 use native.Mathlib.Omega.{arith}
 use Rattle.rules.specs.Limits.{recordSize, rowRecord, byteFileSize}
-use Rattle.rules.specs.Sets.{Keyword, keywordOf}
-use Rattle.rules.specs.Rows.{Way}
+use Rattle.rules.specs.declared.Totals.{Totals}
+use Rattle.rules.specs.declared.Scanned.{Scanned}
+use Rattle.rules.specs.Sets.{Keyword, keywordOf, keywords}
+use Rattle.rules.specs.Rows.{Way, forward, backward}
 use Rattle.rules.specs.Skips.{suffixRows}
-use Rattle.rules.specs.Refusals.{Verdict, pass, refuse, refuseIf, orElse, recordVerdict, recordVerdicts, fileVerdict, rowsVerdict, setVerdict, traceVerdict, workspaceVerdict, rowVerdicts, farVerdicts, tableVerdict}
+use Rattle.rules.specs.Refusals.{Verdict, pass, refuse, refuseIf, orElse, recordVerdict, recordVerdicts, fileVerdict, rowsVerdict, setVerdict, traceVerdict, workspaceVerdict, entryVerdict, rowVerdicts, farVerdicts, tableVerdict}
+use Rattle.rules.specs.Answers.{Told, told}
+use Rattle.rules.specs.Promises.{onPass, answerOr, Forward, forwardTold, forwardVerdict, Backward, backwardEntry, backwardTold, backwardVerdict}
 
 abbrev pub Numbered : Verdict → Type 0
 Numbered v = (p : ℕ) → v ≡ refuse 0 p → ⊥
 
-pub numbered-pass : Numbered pass
+numbered-pass : Numbered pass
 numbered-pass p e = let z : _≡_ {A = ℕ} 0 1 = cc in omega arith
 
 pub numbered-if : (b : Bool) (n p : ℕ) → 1 ≤ n → Numbered (refuseIf b n p)
@@ -52,13 +56,17 @@ pub numbered-set : (way : Way) (s : List ℕ) → Numbered (setVerdict way s)
 unfolding setVerdict rowsVerdict
 numbered-set way s = numbered-both _ _ (numbered-file s) (numbered-if _ 7 0 (omega arith))
 
-pub numbered-trace : (t : List ℕ) → Numbered (traceVerdict t)
+pub numbered-trace : (n : ℕ) → Numbered (traceVerdict n)
 unfolding traceVerdict
-numbered-trace t = numbered-if _ 8 0 (omega arith)
+numbered-trace n = numbered-if _ 8 0 (omega arith)
 
 pub numbered-workspace : (way : Way) (s : List ℕ) (room : ℕ) → Numbered (workspaceVerdict way s room)
 unfolding workspaceVerdict
 numbered-workspace way s room = numbered-if _ 9 _ (omega arith)
+
+pub numbered-entry : (way : Way) (s : List ℕ) (n room : ℕ) → Numbered (entryVerdict way s n room)
+numbered-entry way s n room =
+    numbered-both _ _ (numbered-set way s) (numbered-both _ _ (numbered-trace n) (numbered-workspace way s room))
 
 -- the tests of a table
 numbered-rows : (ks : List Keyword) (i : ℕ) (vs : List (List ℕ)) (f : List ℕ) → Numbered (rowVerdicts ks i vs f)
@@ -79,3 +87,24 @@ numbered-table ks rowf bytef =
     numbered-both _ _ (numbered-if _ 10 _ (omega arith))
     (numbered-both _ _ (numbered-rows ks 0 (suffixRows ks) rowf)
     (numbered-both _ _ (numbered-if _ 13 0 (omega arith)) (numbered-fars ks byteFileSize 0 bytef)))
+
+-- An answer with the number 0 is no refusal, so its tests passed.
+answered-passed : (a : Told) (v : Verdict) → Numbered v → answerOr a v .number ≡ 0 → v ≡ pass
+unfolding answerOr onPass
+answered-passed a pass numbered e = refl
+answered-passed a (refuse n p) numbered e = absurd (numbered p (ap (λ (m : ℕ). refuse m p) e))
+
+pub forward-passed : {s t ws hs ws′ hs′ : List ℕ} (totals : Totals) → Forward s t ws hs (told (Scanned.Found totals)) ws′ hs′
+    → forwardVerdict s t (length ws) ≡ pass
+unfolding forwardVerdict
+forward-passed {s} {t} {ws} totals promise =
+    answered-passed (forwardTold s t) (forwardVerdict s t (length ws)) (numbered-entry forward s (length t) (length ws))
+    (sym (ap (λ (a : Told). a .number) (promise .answered)))
+
+pub backward-passed : {s t rowf bytef ws hs ws′ hs′ : List ℕ} (totals : Totals) → Backward s t rowf bytef ws hs (told (Scanned.Found totals)) ws′ hs′
+    → backwardVerdict s t rowf bytef (length ws) ≡ pass
+unfolding backwardVerdict backwardEntry
+backward-passed {s} {t} {rowf} {bytef} {ws} totals promise =
+    answered-passed (backwardTold s t rowf bytef) (backwardVerdict s t rowf bytef (length ws))
+    (numbered-both _ _ (numbered-entry backward s (length t) (length ws)) (numbered-table (keywords s) rowf bytef))
+    (sym (ap (λ (a : Told). a .number) (promise .answered)))

@@ -14,9 +14,9 @@ use borrow.Author.Tests.{eqb-true, eqb-false, ltb-true, ltb-false}
 use Rattle.rules.specs.Limits.{longestWord, mostRows}
 use Rattle.rules.specs.Strings.{same, begins, any}
 use Rattle.rules.specs.Sets.{Keyword}
-use Rattle.rules.specs.Rows.{Way, forward, backward, readBy, starts, prefixes, meet, meetWords, rowsOf, placeFrom, rowOf, parent}
+use Rattle.rules.specs.Rows.{Way, forward, backward, readBy, starts, prefixes, meet, meetWords, rowsOf, placeFrom, rowOf, parent, Rowed}
 use Rattle.rules.proofs.Strings.{either, never, or-cases, or-left, or-right, or-fails-left, or-fails-right, same-true, same-refl, eq-same, begins-true, begins-by, begins-refl, any-true, any-mem, any-append}
-use Rattle.rules.proofs.Sound.{Sound}
+use Rattle.rules.specs.Sound.{Sound}
 
 -- one byte more, one prefix more; over an append the later prefixes stand behind the first string
 map-same : (l : List (List ℕ)) → map (λ p. p) l ≡ l
@@ -291,14 +291,7 @@ by-snoc P base more w = go [] w base
     go u [] h = rw (append-nil u) h
     go u (c ∷ v) h = rw (append-assoc u (c ∷ []) v) at (go (u ++ (c ∷ [])) v (more u c h))
 
--- Rows as they are while they are built: the empty string first, each string once, each behind its parent.
-pub record Rowed (R : List (List ℕ)) : Type 0 where
-  pub some : 1 ≤ length R
-  pub first : getD R 0 [] ≡ []
-  pub distinct : (i j : ℕ) → i < length R → j < length R → getD R i [] ≡ getD R j [] → i ≡ j
-  pub closed : (s : List ℕ) (c : ℕ) → any (same (s ++ (c ∷ []))) R ≡ true → any (same s) R ≡ true
-  pub parents : (i : ℕ) (s : List ℕ) (c : ℕ) → i < length R → getD R i [] ≡ s ++ (c ∷ []) → rowOf R s < i
-
+-- rows as they are while they are built
 module _ {R : List (List ℕ)} (rowed : Rowed R) where
   pub root-row : any (same []) R ≡ true
   root-row = row-at R 0 [] (rowed .some) (rowed .first)

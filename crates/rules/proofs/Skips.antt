@@ -12,23 +12,13 @@ use lib.Dec.{leb}
 use borrow.Author.Tests.{leb-true, leb-false, le-leb}
 use Rattle.rules.specs.Strings.{any, ends}
 use Rattle.rules.specs.Sets.{Keyword, shortest}
-use Rattle.rules.specs.Skips.{holdsBefore, endsWithin, inner, edge, far}
+use Rattle.rules.specs.Skips.{holdsBefore, endsWithin, innerTest, inner, edgeTest, edge, farTest, far}
 use Rattle.rules.specs.Runs.{Stop, start, missing, moveBy}
 use Rattle.rules.proofs.Strings.{either, and-both, or-cases, or-left, or-right, any-true, any-mem, Cut, within, beyond, cuts, ends-true, ends-by}
-use Rattle.rules.proofs.Sound.{Sound}
+use Rattle.rules.specs.Sound.{Sound}
 use Rattle.rules.proofs.Least.{least-pos, least-cap, least-le, least-passes, shortest-le, shortest-pos, first-of}
 
--- the tests of which the largest numbers are the least that passes
-abbrev pub innerTest : List Keyword → List ℕ → ℕ → Bool
-innerTest ks v n = any (λ (k : Keyword). holdsBefore v n (k .word)) ks
-
-abbrev pub edgeTest : List Keyword → List ℕ → ℕ → Bool
-edgeTest ks v n = any (λ (k : Keyword). endsWithin v n (k .word)) ks
-
-abbrev pub farTest : List Keyword → ℕ → ℕ → ℕ → Bool
-farTest ks a z n = any (λ (k : Keyword). holdsBefore (a ∷ []) (z + n) (k .word)) ks
-
--- they are from 1 to the shortest keyword's length
+-- the largest numbers are from 1 to the shortest keyword's length
 pub inner-pos : (ks : List Keyword) (v : List ℕ) → 1 ≤ inner ks v
 unfolding inner
 inner-pos ks v = least-pos (shortest ks) (innerTest ks v)

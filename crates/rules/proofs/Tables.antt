@@ -13,22 +13,19 @@ use Rattle.rules.specs.Limits.{longestWord, rowRecord, depths, opcodes, 
 use Rattle.rules.specs.Strings.{same}
 use Rattle.rules.specs.Sets.{Keyword}
 use Rattle.rules.specs.Rows.{backward, rowsOf}
-use Rattle.rules.specs.Skips.{inner, edge, far, suffixRows, count, named, rowFile, byteFile}
+use Rattle.rules.specs.Skips.{inner, edge, far, suffixRows, count, named, recordOf, rowFile, byteFile}
 use Rattle.rules.specs.Runs.{innerIn, edgeIn, farIn}
+use Rattle.rules.specs.Audit.{Allowed, Accepted}
 use Rattle.rules.specs.Refusals.{Verdict, pass, refuseIf, orElse, faulty, rowVerdicts, farVerdicts, tableVerdict}
 use Rattle.rules.proofs.Strings.{or-fails-left, or-fails-right, same-true, eq-same}
 use Rattle.rules.proofs.Parts.{getD-map-within}
-use Rattle.rules.proofs.Sound.{Sound}
+use Rattle.rules.specs.Sound.{Sound}
 use Rattle.rules.proofs.Verdicts.{orElse-exactly, test-exactly}
 use Rattle.rules.proofs.Rows.{row-at}
 use Rattle.rules.proofs.Skips.{inner-pos, edge-pos, far-pos}
 use Rattle.rules.proofs.PrefixRows.{row-short}
 
--- a number that a file may hold
-pub record Allowed (largest n : ℕ) : Type 0 where
-  pub some : 1 ≤ n
-  pub fits : n ≤ largest
-
+-- a number passes where a file may hold it
 pub faulty-allowed : (largest n : ℕ) → (faulty largest n ≡ false) ↔ Allowed largest n
 unfolding faulty
 faulty-allowed largest n = (
@@ -135,15 +132,7 @@ far-places ks f = (
       rw place at (h ((0 + j) / depths) ((0 + j) % depths) (omega arith) (omega arith)),
 )
 
--- An accepted table: its files' sizes, each record's name, and each number from 1 to the largest.
-pub record Accepted (ks : List Keyword) (rowf bytef : List ℕ) : Type 0 where
-  pub rowSize : length rowf ≡ rowRecord * length (rowsOf backward ks)
-  pub byteSize : length bytef ≡ byteFileSize
-  pub names : (i : ℕ) → i < length (rowsOf backward ks) → take 16 (drop (rowRecord * i) rowf) ≡ named (getD (suffixRows ks) i [])
-  pub inners : (i : ℕ) → i < length (rowsOf backward ks) → Allowed (inner ks (getD (suffixRows ks) i [])) (innerIn rowf i)
-  pub edges : (i : ℕ) → i < length (rowsOf backward ks) → Allowed (edge ks (getD (suffixRows ks) i [])) (edgeIn rowf i)
-  pub fars : (a z : ℕ) → a < opcodes → z < depths → Allowed (far ks a z) (farIn bytef a z)
-
+-- the suffixes, one a row
 pub suffixRows-length : (ks : List Keyword) → length (suffixRows ks) ≡ length (rowsOf backward ks)
 unfolding suffixRows
 suffixRows-length ks = length-map (rowsOf backward ks) reverse
@@ -250,11 +239,9 @@ suffix-short {ks} sound i h =
     rw (suffixRows-at ks i, length-reverse row) (row-short backward sound row (row-at (rowsOf backward ks) i row h refl))
 
 -- the made row file, record by record
-abbrev pub recordOf : List Keyword → List ℕ → List ℕ
-recordOf ks v = named v ++ (inner ks v ∷ edge ks v ∷ [])
-
 module _ {ks : List Keyword} (sound : Sound ks) where
   record-length : (i : ℕ) → i < length (suffixRows ks) → length (recordOf ks (getD (suffixRows ks) i [])) ≡ rowRecord
+  unfolding recordOf
   record-length i h =
       let v : List ℕ = getD (suffixRows ks) i [] in
       let inside : i < length (rowsOf backward ks) = rw (← (suffixRows-length ks)) h in
@@ -273,6 +260,7 @@ module _ {ks : List Keyword} (sound : Sound ks) where
       (take-at (recordOf ks v) (flatMap (recordOf ks) (drop (suc i) (suffixRows ks))) rowRecord (record-length i inside))
 
   pub rowFile-name : (i : ℕ) → i < length (rowsOf backward ks) → take 16 (drop (rowRecord * i) (rowFile ks)) ≡ named (getD (suffixRows ks) i [])
+  unfolding recordOf
   rowFile-name i h =
       let v : List ℕ = getD (suffixRows ks) i [] in
       sym (take-take 16 rowRecord (drop (rowRecord * i) (rowFile ks)) (omega arith))
@@ -282,6 +270,7 @@ module _ {ks : List Keyword} (sound : Sound ks) where
   -- the two numbers behind a name
   rowFile-number : (i : ℕ) → i < length (rowsOf backward ks) → (j : ℕ) → j < 2
       → getD (rowFile ks) (rowRecord * i + (16 + j)) 0 ≡ getD (inner ks (getD (suffixRows ks) i []) ∷ edge ks (getD (suffixRows ks) i []) ∷ []) j 0
+  unfolding recordOf
   rowFile-number i h j q =
       let v : List ℕ = getD (suffixRows ks) i [] in
       let behind : 16 + j ≡ length (named v) + j = omega (arith, named-length v (suffix-short sound i h)) in

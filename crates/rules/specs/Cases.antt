@@ -98,18 +98,18 @@ abbrev pub Z : ℕ
 Z = 90
 
 -- a keyword's record
-unfoldable pub recordFor : List ℕ → ℕ → List ℕ
-recordFor word energy = named word ++ lowFirst 2 energy
+unfoldable pub keywordRecord : List ℕ → ℕ → List ℕ
+keywordRecord word energy = named word ++ lowFirst 2 energy
 
 -- The sets of the examples. Document 01 names no energy for AA, AB and BA.
 unfoldable pub W : List ℕ
-W = recordFor (L ∷ M ∷ []) 40 ++ recordFor (A ∷ L ∷ M ∷ []) 55 ++ recordFor (L ∷ M ∷ L ∷ A ∷ []) 90
+W = keywordRecord (L ∷ M ∷ []) 40 ++ keywordRecord (A ∷ L ∷ M ∷ []) 55 ++ keywordRecord (L ∷ M ∷ L ∷ A ∷ []) 90
 
 unfoldable pub AA : List ℕ
-AA = recordFor (A ∷ A ∷ []) 1
+AA = keywordRecord (A ∷ A ∷ []) 1
 
 unfoldable pub AB-BA : List ℕ
-AB-BA = recordFor (A ∷ B ∷ []) 1 ++ recordFor (B ∷ A ∷ []) 1
+AB-BA = keywordRecord (A ∷ B ∷ []) 1 ++ keywordRecord (B ∷ A ∷ []) 1
 
 -- the trace T
 unfoldable pub trace : List ℕ

@@ -4,10 +4,11 @@ pub mod Strings
 pub mod Sets
 pub mod Rows
 pub mod Hits
-pub mod Audit
 pub mod Questions
 pub mod Skips
 pub mod Runs
+pub mod Audit
+pub mod Sound
 pub mod Refusals
 pub mod Answers
 pub mod Promises

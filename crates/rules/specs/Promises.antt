@@ -9,7 +9,7 @@ use Rattle.rules.specs.Hits.{hits, energy, over, hitBuffer}
 use Rattle.rules.specs.Questions.{questions}
 use Rattle.rules.specs.Skips.{rowFile, byteFile}
 use Rattle.rules.specs.Runs.{runQuestions}
-use Rattle.rules.specs.Refusals.{Verdict, pass, refuse, orElse, setVerdict, traceVerdict, workspaceVerdict, tableVerdict, bufferVerdict, answerVerdict}
+use Rattle.rules.specs.Refusals.{Verdict, pass, refuse, orElse, setVerdict, traceVerdict, workspaceVerdict, entryVerdict, tableVerdict, bufferVerdict, answerVerdict}
 use Rattle.rules.specs.Answers.{Told, toldRefusal, toldRows, answerBytes}
 
 -- what is left on a refusal, and what where there is none
@@ -31,7 +31,7 @@ withRows way s ws = over (cells way (keywords s)) ws
 
 -- The forward scan: tests 1 to 9.
 unfoldable pub forwardVerdict : List ℕ → List ℕ → ℕ → Verdict
-forwardVerdict s t room = orElse (setVerdict forward s) (orElse (traceVerdict t) (workspaceVerdict forward s room))
+forwardVerdict s t room = entryVerdict forward s (length t) room
 
 unfoldable pub forwardTold : List ℕ → List ℕ → Told
 forwardTold s t =
@@ -50,7 +50,7 @@ pub record Forward (s t ws hs : List ℕ) (answer : Told) (ws′ hs′ : List �
 
 -- The backward scan: tests 1 to 9, then 10 to 14, after which the workspace holds the rows.
 unfoldable pub backwardEntry : List ℕ → List ℕ → ℕ → Verdict
-backwardEntry s t room = orElse (setVerdict backward s) (orElse (traceVerdict t) (workspaceVerdict backward s room))
+backwardEntry s t room = entryVerdict backward s (length t) room
 
 unfoldable pub backwardVerdict : List ℕ → List ℕ → List ℕ → List ℕ → ℕ → Verdict
 backwardVerdict s t rowf bytef room = orElse (backwardEntry s t room) (tableVerdict (keywords s) rowf bytef)
@@ -98,7 +98,7 @@ pub record Check (s rowf bytef ws : List ℕ) (answer : Told) (ws′ : List ℕ)
 
 -- The host call: 17, then 1 to 8; the answer is written on 1 to 8 too.
 unfoldable pub hostVerdict : List ℕ → List ℕ → Verdict
-hostVerdict s t = orElse (setVerdict forward s) (traceVerdict t)
+hostVerdict s t = orElse (setVerdict forward s) (traceVerdict (length t))
 
 unfoldable pub hostTold : List ℕ → List ℕ → Told
 hostTold s t = answerOr (forwardTold s t) (hostVerdict s t)

@@ -38,7 +38,7 @@ recordVerdicts (suc n) i ks s =
     let r = take recordSize s in
     orElse (recordVerdict i ks r) (recordVerdicts n (suc i) (ks ++ (keywordOf i r ∷ [])) (drop recordSize s))
 
--- 1 to 6: a set's own tests, whichever way it is read. Neither 3 nor 7 has a place.
+-- 1 to 6: a set's own tests, whichever way it is read
 unfoldable pub fileVerdict : List ℕ → Verdict
 fileVerdict s =
     orElse (refuseIf (eqb (length s) 0) 1 0)
@@ -50,17 +50,23 @@ fileVerdict s =
 unfoldable pub rowsVerdict : Way → List ℕ → Verdict
 rowsVerdict way s = refuseIf (ltb mostRows (length (rowsOf way (keywords s)))) 7 0
 
+-- 1 to 7: a set that is read one way
 unfoldable pub setVerdict : Way → List ℕ → Verdict
 setVerdict way s = orElse (fileVerdict s) (rowsVerdict way s)
 
-unfoldable pub traceVerdict : List ℕ → Verdict
-traceVerdict t = refuseIf (ltb longestTrace (length t)) 8 0
+-- 8: a trace of n bytes
+unfoldable pub traceVerdict : ℕ → Verdict
+traceVerdict n = refuseIf (ltb longestTrace n) 8 0
 
--- the second number is how many numbers the workspace has
+-- 9: a workspace with room for so many numbers
 unfoldable pub workspaceVerdict : Way → List ℕ → ℕ → Verdict
 workspaceVerdict way s room =
     let rows = length (rowsOf way (keywords s)) in
     refuseIf (ltb room (rowCells * rows)) 9 rows
+
+-- 1 to 9: what a scan of a trace of n bytes begins with
+abbrev pub entryVerdict : Way → List ℕ → ℕ → ℕ → Verdict
+entryVerdict way s n room = orElse (setVerdict way s) (orElse (traceVerdict n) (workspaceVerdict way s room))
 
 -- a number of a file: 0, or above the largest
 unfoldable pub faulty : ℕ → ℕ → Bool

@@ -27,14 +27,26 @@ holdsBefore v n w = leb n (length w) && ends v (take (length w - n) w)
 unfoldable pub endsWithin : List ℕ → ℕ → List ℕ → Bool
 endsWithin v n w = leb (length w) n || ends (take (length w - n) w) v
 
+-- the least n from 1 up such that some keyword has v with exactly n bytes after it
+abbrev pub innerTest : List Keyword → List ℕ → ℕ → Bool
+innerTest ks v n = any (λ (k : Keyword). holdsBefore v n (k .word)) ks
+
 unfoldable pub inner : List Keyword → List ℕ → ℕ
-inner ks v = least (shortest ks) (λ n. any (λ (k : Keyword). holdsBefore v n (k .word)) ks)
+inner ks v = least (shortest ks) (innerTest ks v)
+
+-- the least n from 1 up such that some string made of v and n further bytes ends with a keyword
+abbrev pub edgeTest : List Keyword → List ℕ → ℕ → Bool
+edgeTest ks v n = any (λ (k : Keyword). endsWithin v n (k .word)) ks
 
 unfoldable pub edge : List Keyword → List ℕ → ℕ
-edge ks v = least (shortest ks) (λ n. any (λ (k : Keyword). endsWithin v n (k .word)) ks)
+edge ks v = least (shortest ks) (edgeTest ks v)
+
+-- the least n from 1 up such that some keyword has the byte a with exactly z + n bytes after it
+abbrev pub farTest : List Keyword → ℕ → ℕ → ℕ → Bool
+farTest ks a z n = any (λ (k : Keyword). holdsBefore (a ∷ []) (z + n) (k .word)) ks
 
 unfoldable pub far : List Keyword → ℕ → ℕ → ℕ
-far ks a z = least (shortest ks) (λ n. any (λ (k : Keyword). holdsBefore (a ∷ []) (z + n) (k .word)) ks)
+far ks a z = least (shortest ks) (farTest ks a z)
 
 -- the suffixes that the backward rows stand for, in trace order
 unfoldable pub suffixRows : List Keyword → List (List ℕ)
@@ -49,9 +61,13 @@ count n (suc k) = n ∷ count (suc n) k
 unfoldable pub named : List ℕ → List ℕ
 named v = length v ∷ v ++ replicate (longestWord - length v) 0
 
+-- a row's record with the largest numbers
+unfoldable pub recordOf : List Keyword → List ℕ → List ℕ
+recordOf ks v = named v ++ (inner ks v ∷ edge ks v ∷ [])
+
 -- the files that hold the largest numbers
 unfoldable pub rowFile : List Keyword → List ℕ
-rowFile ks = flatMap (λ v. named v ++ (inner ks v ∷ edge ks v ∷ [])) (suffixRows ks)
+rowFile ks = flatMap (recordOf ks) (suffixRows ks)
 
 unfoldable pub byteFile : List Keyword → List ℕ
 byteFile ks = flatMap (λ a. map (far ks a) (count 0 depths)) (count 0 opcodes)

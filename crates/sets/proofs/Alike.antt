@@ -10,7 +10,8 @@ use lib.Seq.{drop-cons}
 use lib.Dec.{eqb}
 use borrow.Author.Tests.{eq-eqb, ne-eqb}
 use Rattle.rules.specs.Rows as R
-use Rattle.rules.proofs.Count.{common, common-nil}
+use Rattle.rules.specs.Strings.{common}
+use Rattle.rules.proofs.Count.{common-nil}
 use Rattle.sets.specs.Words.{Stated, readAt}
 use Rattle.sets.proofs.Records.{read-length}
 

@@ -7,8 +7,9 @@ use mathlib.Core.List.{List, [], _∷_, map, map-append}
 use lib.ListN.{length}
 use Rattle.rules.specs.Sets.{Keyword, keywordsFrom, keywordAt, recordAt, shortest}
 use Rattle.rules.specs.Rows as R
+use Rattle.rules.specs.Strings.{common, mostCommon}
 use Rattle.rules.proofs.Sets.{keywords-more, length-keywordsFrom}
-use Rattle.rules.proofs.Count.{common, mostCommon, mostCommon-le, mostCommon-append, rowsOf-count}
+use Rattle.rules.proofs.Count.{mostCommon-le, mostCommon-append, rowsOf-count}
 use Rattle.rules.proofs.Common.{shortest-more}
 use Rattle.sets.specs.Words.{Stated, readAt, earlier}
 use Rattle.sets.proofs.Records.{read-length, word-length}

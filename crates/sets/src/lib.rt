@@ -9,8 +9,7 @@ ghost use lib.ListN.{length, getD};
 ghost use Rattle.rules.specs.Sets.{keywords, keywordsFrom, keywordAt, recordAt, shortest, isKeyword};
 ghost use Rattle.rules.specs.Rows.{rowsOf};
 ghost use Rattle.rules.specs.Refusals.{pass, fileVerdict, recordVerdict, recordVerdicts};
-ghost use Rattle.rules.proofs.Count.{common, mostCommon};
-ghost use Rattle.rules.specs.Strings.{same};
+ghost use Rattle.rules.specs.Strings.{same, common, mostCommon};
 ghost use Rattle.sets.specs.Words.{Holds, Stated, Good, wayOf, readAt, earlier, verdictOf, Tested, paddingFault};
 
 // A keyword as it is read: its first `len` units, zeros behind.

@@ -11,9 +11,10 @@ use Rattle.rules.specs.Rows.{backward, rowsOf}
 use Rattle.rules.specs.Refusals.{Verdict, pass, tableVerdict}
 use Rattle.rules.specs.Answers.{Told, toldRefusal}
 use Rattle.rules.specs.Promises.{onPass, answerOr, rowsTold, tableEntry, checkVerdict, Check}
+use Rattle.rules.specs.Audit.{Accepted}
 use Rattle.rules.proofs.Verdicts.{verdict-cases, orElse-exactly}
 use Rattle.rules.proofs.Rows.{rowed-rows}
-use Rattle.rules.proofs.Tables.{Accepted, accepted-exactly}
+use Rattle.rules.proofs.Tables.{accepted-exactly}
 
 -- an answer of making or of the check is the number of rows exactly where nothing is refused
 pub answered-rows : (s : List ℕ) (v : Verdict) → (answerOr (rowsTold s) v ≡ rowsTold s) ↔ (v ≡ pass)

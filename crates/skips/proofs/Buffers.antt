@@ -11,11 +11,11 @@ use Rattle.rules.specs.Limits.{rowRecord}
 use Rattle.rules.specs.Sets.{Keyword, keywords}
 use Rattle.rules.specs.Rows.{backward, rowsOf}
 use Rattle.rules.specs.Hits.{over}
-use Rattle.rules.specs.Skips.{named, inner, edge, suffixRows, rowFile}
+use Rattle.rules.specs.Skips.{named, inner, edge, suffixRows, rowFile, recordOf}
 use Rattle.rules.proofs.Buffers.{over-sets, over-length}
 use Rattle.rules.proofs.Tables.{suffixRows-length, named-length}
 use Rattle.skips.specs.declared.suffixes.Place.{Place}
-use Rattle.skips.specs.Suffixes.{Suffix, At, suffixAt, recordFor, putAt}
+use Rattle.skips.specs.Suffixes.{Suffix, At, suffixAt, putAt}
 use Rattle.skips.proofs.Matches.{suffix-length, suffix-short}
 
 -- the first k numbers of new stand in the buffer from a place on
@@ -60,8 +60,8 @@ flatMap-snoc f [] x = append-nil (f x)
 flatMap-snoc f (a ∷ l) x = rw (flatMap-snoc f l x) (sym (append-assoc (f a) (flatMap f l) (f x)))
 
 -- the record of a suffix fills a row's part of the file
-record-size : {s : List ℕ} {i z : ℕ} (ks : List Keyword) → Suffix s i z → length (recordFor ks (suffixAt s i z)) ≡ rowRecord
-unfolding recordFor
+record-size : {s : List ℕ} {i z : ℕ} (ks : List Keyword) → Suffix s i z → length (recordOf ks (suffixAt s i z)) ≡ rowRecord
+unfolding recordOf
 record-size {s} {i} {z} ks ok =
     let v : List ℕ = suffixAt s i z in
     let short : length v ≤ 15 = omega (arith, suffix-length ok, suffix-short ok) in
@@ -69,7 +69,7 @@ record-size {s} {i} {z} ks ok =
 
 -- the first n records of the row file
 unfoldable pub records : List ℕ → ℕ → List ℕ
-records s n = flatMap (recordFor (keywords s)) (take n (suffixRows (keywords s)))
+records s n = flatMap (recordOf (keywords s)) (take n (suffixRows (keywords s)))
 
 -- they lie over the front of the buffer, which has room for all
 pub record Laid (s old buffer : List ℕ) (n : ℕ) : Type 0 where
@@ -87,7 +87,7 @@ module _ {s old buffer : List ℕ} {n : ℕ} (so : Laid s old buffer n) where
 
   module _ {at : Place} (here : At s n at) where
     abbrev new : List ℕ
-    new = recordFor (keywords s) (suffixAt s (at .keyword) (at .depth))
+    new = recordOf (keywords s) (suffixAt s (at .keyword) (at .depth))
 
     -- the next record is this suffix's
     records-more : records s (n + 1) ≡ records s n ++ new
@@ -95,9 +95,9 @@ module _ {s old buffer : List ℕ} {n : ℕ} (so : Laid s old buffer n) where
     records-more =
         let vs : List (List ℕ) = suffixRows (keywords s) in
         let inside : n < length vs = omega (arith, here .within, suffixRows-length (keywords s)) in
-        rw (add-one n, take-suc vs n [] inside, flatMap-snoc (recordFor (keywords s)) (take n vs) (getD vs n []), here .names)
+        rw (add-one n, take-suc vs n [] inside, flatMap-snoc (recordOf (keywords s)) (take n vs) (getD vs n []), here .names)
 
-    pub laid-more : Laid s old (putAt buffer (rowRecord * n) (recordFor (keywords s) (suffixAt s (at .keyword) (at .depth)))) (n + 1)
+    pub laid-more : Laid s old (putAt buffer (rowRecord * n) (recordOf (keywords s) (suffixAt s (at .keyword) (at .depth)))) (n + 1)
     laid-more =
         let size : length new ≡ rowRecord = record-size (keywords s) (here .reached .suffix) in
         let fits : length (records s n) + length new ≤ length old = omega (arith, so .sized, so .room, here .within) in
@@ -108,8 +108,8 @@ module _ {s old buffer : List ℕ} {n : ℕ} (so : Laid s old buffer n) where
         }
 
   pub laid-all : n ≡ length (rowsOf backward (keywords s)) → buffer ≡ over (rowFile (keywords s)) old
-  unfolding records rowFile recordFor
+  unfolding records rowFile recordOf
   laid-all e =
       let all : take n (suffixRows (keywords s)) ≡ suffixRows (keywords s) =
       take-all n (suffixRows (keywords s)) (omega (arith, suffixRows-length (keywords s))) in
-      so .known ∙ ap (λ (l : List (List ℕ)). over (flatMap (recordFor (keywords s)) l) old) all
+      so .known ∙ ap (λ (l : List (List ℕ)). over (flatMap (recordOf (keywords s)) l) old) all

@@ -14,7 +14,7 @@ use borrow.Author.Tests.{eqb-true, eq-eqb, eqb-false, leb-true, leb-false, ltb-t
 use Rattle.rules.specs.Limits.{depths, opcodes}
 use Rattle.rules.specs.Strings.{any}
 use Rattle.rules.specs.Sets.{Keyword, keywords, keywordAt, shortest}
-use Rattle.rules.specs.Skips.{holdsBefore, far, count}
+use Rattle.rules.specs.Skips.{holdsBefore, far, count, farTest}
 use Rattle.rules.specs.Refusals.{pass, fileVerdict}
 use Rattle.rules.proofs.Strings.{either, never, any-true}
 use Rattle.rules.proofs.Rows.{any-at}
@@ -22,7 +22,6 @@ use Rattle.rules.proofs.Parts.{getD-map-within}
 use Rattle.rules.proofs.Sets.{file-passed, keywords-mem, getD-keywords, length-keywords}
 use Rattle.rules.proofs.Distances.{holds-short}
 use Rattle.rules.proofs.Lowest.{least-is, holds-byte}
-use Rattle.rules.proofs.Skips.{farTest}
 use Rattle.rules.proofs.Tables.{count-length, count-at}
 use Rattle.sets.specs.Words.{Stated}
 use Rattle.sets.proofs.Records.{word-length, word-at}

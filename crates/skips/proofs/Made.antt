@@ -11,12 +11,13 @@ use Rattle.rules.specs.Skips.{rowFile, byteFile}
 use Rattle.rules.specs.Refusals.{pass}
 use Rattle.rules.specs.Answers.{Told}
 use Rattle.rules.specs.Promises.{onPass, kept, rowsTold, tableEntry, makeVerdict, Make, Check}
-use Rattle.rules.proofs.Sound.{Sound}
+use Rattle.rules.specs.Sound.{Sound}
+use Rattle.rules.specs.Audit.{Accepted}
 use Rattle.rules.proofs.Verdicts.{orElse-pass}
 use Rattle.rules.proofs.Sets.{set-passed}
 use Rattle.rules.proofs.Bytes.{bytes-sound}
 use Rattle.rules.proofs.Buffers.{over-front}
-use Rattle.rules.proofs.Tables.{Accepted, rowFile-length, byteFile-length, made-accepted}
+use Rattle.rules.proofs.Tables.{rowFile-length, byteFile-length, made-accepted}
 use Rattle.skips.proofs.Accepts.{answered-rows, check-accepts}
 
 -- the front of a buffer, as much as a file has

@@ -12,7 +12,7 @@ use Rattle.rules.specs.Sets.{keywords}
 use Rattle.rules.specs.Rows.{backward, rowsOf, cells}
 use Rattle.rules.specs.Hits.{over}
 use Rattle.rules.specs.Skips.{rowFile, byteFile}
-use Rattle.rules.specs.Refusals.{pass, refuse, refuseIf, orElse, fileVerdict, workspaceVerdict, tableVerdict, bufferVerdict}
+use Rattle.rules.specs.Refusals.{pass, refuse, refuseIf, orElse, fileVerdict, traceVerdict, workspaceVerdict, tableVerdict, bufferVerdict}
 use Rattle.rules.specs.Answers.{numberOf, placeOf, toldTable}
 use Rattle.rules.specs.Promises.{onPass, kept, answerOr, withRows, tableEntry, rowsTold, Make, makeVerdict, Check, checkVerdict}
 use Rattle.rules.proofs.Verdicts.{orElse-pass, refuseIf-pass}
@@ -24,7 +24,7 @@ use Rattle.skips.specs.Beginning.{Begun}
 
 -- the verdict of a job that has entered with no trace
 pub table-judged : (s : List ℕ) (room : ℕ) {r : Entered} → Admission backward s 0 room r → enteredVerdict r ≡ tableEntry s room
-unfolding tableEntry refuseIf orElse
+unfolding tableEntry traceVerdict refuseIf orElse
 table-judged s room a = a .judged
 
 -- what a set and a workspace that passed are

@@ -11,10 +11,9 @@ use lib.Dec.{eqb}
 use borrow.Author.Tests.{ne-eqb}
 use Rattle.rules.specs.Strings.{same}
 use Rattle.rules.specs.Sets.{Keyword}
-use Rattle.rules.specs.Skips.{inner, edge, suffixRows, named}
+use Rattle.rules.specs.Skips.{inner, edge, suffixRows, named, recordOf}
 use Rattle.rules.specs.Refusals.{Verdict, pass, refuse, refuseIf, orElse, faulty, rowVerdicts}
 use Rattle.rules.proofs.Tables.{named-length}
-use Rattle.skips.specs.Suffixes.{recordFor}
 use Rattle.skips.specs.Judging.{faultOf}
 use Rattle.skips.proofs.Compared.{rowRecordAt}
 
@@ -30,18 +29,18 @@ decided true false i w = refl
 decided false bad i w = refl
 
 -- the record with the largest numbers: its name and its numbers
-record-name : (ks : List Keyword) (v : List ℕ) → length v ≤ 15 → take 16 (recordFor ks v) ≡ named v
-unfolding recordFor
+record-name : (ks : List Keyword) (v : List ℕ) → length v ≤ 15 → take 16 (recordOf ks v) ≡ named v
+unfolding recordOf
 record-name ks v h = take-at (named v) (inner ks v ∷ edge ks v ∷ []) 16 (named-length v h)
 
-record-number : (ks : List Keyword) (v : List ℕ) → length v ≤ 15 → (j : ℕ) → getD (recordFor ks v) (16 + j) 0 ≡ getD (inner ks v ∷ edge ks v ∷ []) j 0
-unfolding recordFor
+record-number : (ks : List Keyword) (v : List ℕ) → length v ≤ 15 → (j : ℕ) → getD (recordOf ks v) (16 + j) 0 ≡ getD (inner ks v ∷ edge ks v ∷ []) j 0
+unfolding recordOf
 record-number ks v h j =
     let behind : 16 + j ≡ length (named v) + j = omega (arith, named-length v h) in
     ap (λ (n : ℕ). getD (named v ++ (inner ks v ∷ edge ks v ∷ [])) n 0) behind ∙ getD-append-add (named v) (inner ks v ∷ edge ks v ∷ []) j 0
 
 fault-is : (ks : List Keyword) (v f : List ℕ) → length v ≤ 15
-    → faultOf (recordFor ks v) (take 18 f) ≡ cond (same (take 16 f) (named v)) (cond (faulty (inner ks v) (getD f 16 0) || faulty (edge ks v) (getD f 17 0)) 12 0) 11
+    → faultOf (recordOf ks v) (take 18 f) ≡ cond (same (take 16 f) (named v)) (cond (faulty (inner ks v) (getD f 16 0) || faulty (edge ks v) (getD f 17 0)) 12 0) 11
 unfolding faultOf
 fault-is ks v f h =
     rw (
@@ -66,7 +65,7 @@ pub record RowTold (ks : List Keyword) (file : List ℕ) (row : ℕ) (v : List �
   pub within : row < length (suffixRows ks)
   pub names : getD (suffixRows ks) row [] ≡ v
   pub short : length v ≤ 15
-  pub fault : n ≡ faultOf (recordFor ks v) (rowRecordAt file row)
+  pub fault : n ≡ faultOf (recordOf ks v) (rowRecordAt file row)
 
 module _ {ks : List Keyword} {file : List ℕ} {row : ℕ} {v : List ℕ} {n : ℕ} (told : RowTold ks file row v n) where
   -- the tests of that row, and those behind it

@@ -5,12 +5,11 @@ use mathlib.Core.Bool.{Bool}
 use mathlib.Core.List.{List, [], _∷_, _++_}
 use lib.ListN.{length, take, drop, getD}
 use Rattle.rules.specs.Limits.{rowRecord}
-use Rattle.rules.specs.Strings.{any}
+use Rattle.rules.specs.Strings.{any, mostCommon}
 use Rattle.rules.specs.Sets.{Keyword, keywords, keywordsFrom, keywordAt, shortest}
 use Rattle.rules.specs.Rows.{backward, rowsOf}
 use Rattle.rules.specs.Refusals.{pass, fileVerdict}
 use Rattle.rules.specs.Skips.{inner, edge, holdsBefore, endsWithin, named, suffixRows}
-use Rattle.rules.proofs.Count.{mostCommon}
 use Rattle.sets.specs.Words.{earlier, readAt}
 use Rattle.skips.specs.declared.suffixes.Place.{Place}
 use Rattle.skips.specs.declared.numbers.Number.{Number}
@@ -42,10 +41,6 @@ somePasses which ks v n = any (λ (k : Keyword). testOf which v n (k .word)) ks
 unfoldable pub largestOf : Number → List Keyword → List ℕ → ℕ
 largestOf Inner = inner
 largestOf Edge = edge
-
--- a row's record with the largest numbers
-unfoldable pub recordFor : List Keyword → List ℕ → List ℕ
-recordFor ks v = named v ++ (inner ks v ∷ edge ks v ∷ [])
 
 -- a part of a buffer written over from a place on
 unfoldable pub putAt : List ℕ → ℕ → List ℕ → List ℕ

@@ -12,8 +12,8 @@ ghost use Rattle.rules.specs.Sets.{keywords, shortest};
 ghost use Rattle.rules.specs.Rows.{backward, rowsOf};
 ghost use Rattle.rules.specs.Refusals.{pass, fileVerdict};
 ghost use Rattle.rules.specs.Hits.{over};
-ghost use Rattle.rules.specs.Skips.{rowFile};
-ghost use Rattle.skips.specs.Suffixes.{Suffix, At, PutRows, recordFor, suffixAt, putAt};
+ghost use Rattle.rules.specs.Skips.{rowFile, recordOf};
+ghost use Rattle.skips.specs.Suffixes.{Suffix, At, PutRows, suffixAt, putAt};
 
 // A row as a suffix: the last `depth` bytes of a keyword.
 pub(crate) struct Place {
@@ -51,7 +51,7 @@ pub(crate) fn next(set: &[u8], at: Place, row: usize) -> Place
 // The record of a row with the largest numbers: the suffix in its sixteen places, inner, edge.
 pub(crate) fn record_of(set: &[u8], at: Place, m: usize) -> [u8; 18]
     requires { ⌜ Suffix (now set) (at .keyword) (at .depth) × (m ≡ shortest (keywords (now set))) ⌝ }
-    ensures { λ r. ⌜ r ≡ recordFor (keywords (now (set .entry))) (suffixAt (now (set .entry)) (at .keyword) (at .depth)) ⌝ }
+    ensures { λ r. ⌜ r ≡ recordOf (keywords (now (set .entry))) (suffixAt (now (set .entry)) (at .keyword) (at .depth)) ⌝ }
 {
     let i = at.keyword;
     let z = at.depth;

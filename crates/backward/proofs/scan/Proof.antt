@@ -9,11 +9,11 @@ use Rattle.rules.specs.Sets.{keywords}
 use Rattle.rules.specs.Rows.{backward}
 use Rattle.rules.specs.Refusals.{pass, tableVerdict}
 use Rattle.rules.specs.Promises.{backwardEntry}
-use Rattle.rules.proofs.Sound.{Sound}
+use Rattle.rules.specs.Sound.{Sound}
 use Rattle.rules.proofs.Bytes.{mem-below, bytes-sound}
 use Rattle.sets.specs.Words.{wayOf}
 use Rattle.rows.specs.Entry.{enteredVerdict}
-use Rattle.rows.proofs.Admitted.{Admitted, entry-judged, entry-admitted}
+use Rattle.rows.proofs.Admitted.{Admitted, entry-admitted}
 use Rattle.skips.specs.Judging.{judgedVerdict}
 use Rattle.backward.specs.Windowed.{Prepared}
 use Rattle.backward.proofs.Outcomes.{backward-refused, backward-unsafe, backward-prepared, count-few, questions-few, backward-found}
@@ -34,7 +34,7 @@ entry : (c : tie.After-enter)
     → let a = c .before .before .before .before .before .before .before .args in
     enteredVerdict (c .enter .result) ≡ backwardEntry (now (a .set)) (now (a .trace)) (length (now (a .workspace)))
 unfolding wayOf backwardEntry
-entry c = entry-judged (now (c .before .before .before .before .before .before .before .args .trace)) (c .enter .ensures)
+entry c = c .enter .ensures .judged
 
 -- they passed
 passed : (c : tie.After-entered2)

@@ -8,7 +8,7 @@ use borrow.Author.Needs.{needs}
 use Rattle.rules.specs.Sets.{keywords}
 use Rattle.rules.specs.Refusals.{pass}
 use Rattle.rules.specs.Promises.{forwardVerdict}
-use Rattle.rules.proofs.Sound.{Sound}
+use Rattle.rules.specs.Sound.{Sound}
 use Rattle.rules.proofs.Bytes.{bytes-sound}
 use Rattle.sets.specs.Words.{wayOf}
 use Rattle.rows.specs.Entry.{enteredVerdict}

@@ -5,7 +5,7 @@ use denote.Ref.{now}
 use borrow.Author.Needs.{needs}
 use Rattle.rules.specs.Sets.{keywords}
 use Rattle.rules.specs.Rows.{Way, forward, backward, rowsOf}
-use Rattle.rules.proofs.Sound.{Sound}
+use Rattle.rules.specs.Sound.{Sound}
 use Rattle.rules.proofs.Bytes.{bytes-sound}
 use Rattle.sets.specs.Words.{wayOf}
 use Rattle.rows.specs.Builds.{Built}

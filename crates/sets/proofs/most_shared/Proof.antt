@@ -4,7 +4,7 @@ use native.Mathlib.Omega.{arith}
 use mathlib.Core.Path.{_≡_}
 use mathlib.Core.Logic.{⊎-elim}
 use denote.Ref.{now}
-use Rattle.rules.proofs.Count.{mostCommon}
+use Rattle.rules.specs.Strings.{mostCommon}
 use Rattle.sets.specs.Words.{wayOf, readAt, earlier}
 use Rattle.sets.proofs.Passed.{good-stated}
 use Rattle.sets.proofs.Counted.{most-none, most-more}

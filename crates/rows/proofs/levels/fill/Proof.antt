@@ -5,7 +5,7 @@ use mathlib.Core.Path.{_≡_}
 use lib.ListN.{getD-replicate}
 use denote.Ref.{now}
 use Rattle.rules.specs.Sets.{keywords}
-use Rattle.rules.proofs.Sound.{Sound}
+use Rattle.rules.specs.Sound.{Sound}
 use Rattle.rules.proofs.Bytes.{bytes-sound}
 use Rattle.rows.specs.Levels.{Levelled}
 use Rattle.rows.proofs.Depth.{levelled-none, levelled-more}

@@ -6,7 +6,7 @@ use mathlib.Core.Logic.{⊎-elim}
 use lib.ListN.{length, getD}
 use denote.Ref.{now}
 use Rattle.rules.specs.Sets.{keywords}
-use Rattle.rules.proofs.Sound.{Sound}
+use Rattle.rules.specs.Sound.{Sound}
 use Rattle.rules.proofs.Sets.{file-passed}
 use Rattle.rules.proofs.Bytes.{bytes-sound}
 use Rattle.rules.proofs.Least.{shortest-pos, shortest-short}

@@ -4,7 +4,7 @@ use native.Mathlib.Omega.{arith}
 use denote.Ref.{now}
 use Rattle.rules.specs.Sets.{keywords}
 use Rattle.rules.specs.Rows.{backward}
-use Rattle.rules.proofs.Sound.{Sound}
+use Rattle.rules.specs.Sound.{Sound}
 use Rattle.rules.proofs.Bytes.{bytes-sound}
 use Rattle.rules.proofs.Rows.{rows-few}
 use Rattle.rules.proofs.Tables.{suffixRows-length, suffix-short}

@@ -2,7 +2,8 @@
 use Prim.Native.Nat.{_-_}
 use native.Mathlib.Omega.{arith}
 use denote.Ref.{now}
-use Rattle.skips.specs.Suffixes.{suffixAt, recordFor, largestOf}
+use Rattle.rules.specs.Skips.{recordOf}
+use Rattle.skips.specs.Suffixes.{suffixAt, largestOf}
 use Rattle.skips.proofs.Matches.{Measured, measured, listed-whole, suffix-length, suffix-short}
 use Rattle.skips.proofs.Spelling.{Spelled, spelled-none, spelled-more, spelled-all, suffix-at}
 use Rattle.skips.proofs.suffixes.record_of.Statement.{statement}
@@ -90,7 +91,7 @@ array-write-numbers-4 : tie.Need-array-write-numbers-4 Inv-loop μ-loop
 array-write-numbers-4 c = omega arith
 
 returns : tie.Need-returns Inv-loop μ-loop
-unfolding recordFor largestOf
+unfolding recordOf largestOf
 returns c =
     let d = c .before .before in
     let size = suffix-length (d .before .before .before .before .pre .0) in

@@ -1,4 +1,4 @@
--- What a set that passed its tests is known to be: every law that needs a good set asks for this record.
+-- What the keywords of a set that passed its tests are: the laws that need a good set ask for this record.
 use Prim.Native.Nat.{ℕ, _≤_, _<_}
 use mathlib.Core.Path.{_≡_}
 use mathlib.Core.List.{List, List·Memᴰ}
