@@ -3,3 +3,4 @@ pub mod States
 pub mod Endings
 pub mod Outcomes
 pub mod Bound
+pub mod Determined

@@ -11,3 +11,4 @@ pub mod Building
 pub mod Laying
 pub mod Admissions
 pub mod Admitted
+pub mod Determined

@@ -10,6 +10,7 @@ use Rattle.rules.specs.declared.Refusal.the-variants.{SetEmpty, SetSize,
 use Rattle.rules.specs.declared.Scanned.{Scanned}
 use Rattle.rules.specs.declared.Tabled.{Tabled}
 use Rattle.rules.specs.Limits.{answerSize}
+use Rattle.rules.specs.Refusals.{pass, refuse}
 use Rattle.rules.specs.Answers.{numberOf, placeOf, Told, toldRefusal, told, toldTable, lowFirst, answerBytes}
 
 -- what can be read back loses nothing
@@ -63,7 +64,7 @@ answerBy-refusal a f (RowBufferShort n) = refl
 answerBy-refusal a f ByteBufferShort = refl
 answerBy-refusal a f AnswerShort = refl
 
-pub refusal-injective : (r q : Refusal) → numberOf r ≡ numberOf q → placeOf r ≡ placeOf q → r ≡ q
+refusal-injective : (r q : Refusal) → numberOf r ≡ numberOf q → placeOf r ≡ placeOf q → r ≡ q
 refusal-injective r q number place =
     read-back (λ (r : Refusal). toldRefusal (numberOf r) (placeOf r))
     (λ (a : Told). answerBy SetEmpty (λ r. r) (a .number) (a .place))
@@ -71,6 +72,16 @@ refusal-injective r q number place =
     r
     q
     (rw (number, place))
+
+-- so a verdict says which refusal it was, and a refusal is no pass
+pub refused-same : (r q : Refusal) → refuse (numberOf r) (placeOf r) ≡ refuse (numberOf q) (placeOf q) → r ≡ q
+refused-same r q e =
+    let number : numberOf r ≡ numberOf q = cc in
+    let place : placeOf r ≡ placeOf q = cc in
+    refusal-injective r q number place
+
+pub passed-refused : {n p : ℕ} {C : Type 0} → pass ≡ refuse n p → C
+passed-refused e = let z : _≡_ {A = ℕ} 0 1 = cc in absurd (omega arith)
 
 pub told-injective : (r q : Scanned) → told r ≡ told q → r ≡ q
 unfolding answerBy

@@ -7,3 +7,4 @@ pub mod Judged
 pub mod Files
 pub mod Counted
 pub mod Filled
+pub mod Determined

@@ -14,3 +14,4 @@ pub mod Tested
 pub mod Accepts
 pub mod Made
 pub mod Outcomes
+pub mod Determined
