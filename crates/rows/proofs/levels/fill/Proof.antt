@@ -36,7 +36,7 @@ fill-level-requires c κs =
       sound = sound e;
       filling = known .filling;
       stands = known .stands;
-      shallow = c .before .loop-test .taken;
+      shallow = omega arith;
     }
 
 add-depth : tie.Need-add-depth Inv-loop μ-loop
