@@ -8,7 +8,6 @@ use backward::scan as scan_backward;
 use forward::scan;
 use skips::check;
 use skips::make;
-ghost use Prim.Native.Nat.{ℕ};
 ghost use Rattle.rules.specs.Promises.{Host};
 ghost use Rattle.host.specs.Calls.{ForwardCall, BackwardCall, MakeCall, CheckCall};
 

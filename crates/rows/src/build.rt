@@ -4,7 +4,7 @@ use crate::tree::ask;
 use rules::Way;
 use sets::word_of;
 ghost use mathlib.Core.Path.{_≡_};
-ghost use Prim.Native.Nat.{ℕ, _+_, _*_, _<_, _≤_};
+ghost use Prim.Native.Nat.{_+_, _*_, _<_, _≤_};
 ghost use lib.ListN.{length};
 ghost use Rattle.rules.specs.Sets.{keywords, keywordsFrom};
 ghost use Rattle.rules.specs.Rows.{rowsOf};

@@ -4,7 +4,6 @@ use rules::Way;
 use sets::Verified;
 use sets::count_rows;
 use sets::verify;
-ghost use Prim.Native.Nat.{ℕ};
 ghost use Rattle.sets.specs.Words.{wayOf};
 ghost use Rattle.rows.specs.Entry.{Admission};
 

@@ -3,10 +3,9 @@ use crate::cells::dictionary;
 use crate::cells::failure;
 use crate::cells::key;
 use crate::tree::ask;
-ghost use mathlib.Core.Path.{_≡_};
 ghost use mathlib.Core.List.{List, []};
-ghost use Prim.Native.Nat.{ℕ, _+_, _*_, _<_, _≤_};
-ghost use lib.ListN.{length, getD};
+ghost use Prim.Native.Nat.{ℕ, _+_, _*_};
+ghost use lib.ListN.{getD};
 ghost use Rattle.rules.specs.Sets.{Keyword};
 ghost use Rattle.rows.specs.Falls.{Ready, Moved, Fillable, Filled};
 

@@ -8,7 +8,7 @@ pub mod enter; // enter.rt: the tests that every job begins with
 
 use rules::Way;
 ghost use mathlib.Core.Path.{_≡_};
-ghost use Prim.Native.Nat.{ℕ, _*_, _≤_};
+ghost use Prim.Native.Nat.{_*_, _≤_};
 ghost use lib.ListN.{length};
 ghost use Rattle.rules.specs.Sets.{keywords};
 ghost use Rattle.rules.specs.Rows.{rowsOf, cells};

@@ -1,10 +1,10 @@
 -- A hit buffer over whose front the hits were written passes the audit: its pairs are the hits one by one, and the hits are the
 -- occurrences, in order.
-use Prim.Native.Nat.{ℕ, _+_, _*_, _/_, _≤_, _<_, min}
+use Prim.Native.Nat.{ℕ, _+_, _*_, _/_, _≤_, _<_}
 use native.Mathlib.Omega.{arith}
 use mathlib.Core.Path.{_≡_, sym, _∙_, subst}
 use mathlib.Core.List.{List}
-use lib.ListN.{length, getD, drop}
+use lib.ListN.{length, getD}
 use Rattle.rules.specs.Limits.{opcodes}
 use Rattle.rules.specs.Sets.{keywords, keywordAt}
 use Rattle.rules.specs.Hits.{Hit, hits, hitBuffer}

@@ -6,8 +6,8 @@ use native.Mathlib.Numerals.{add-one}
 use native.Mathlib.Nat.{not-suc-le-zero, le-of-suc-le-suc}
 use mathlib.Core.Path.{_≡_, refl, sym, _∙_, ap}
 use mathlib.Core.List.{List, [], _∷_, _++_, append-assoc, append-nil}
-use lib.ListN.{length, take, drop, set, length-append, length-take, length-drop, drop-of-length-le, take-append-drop}
-use lib.Seq.{take-all, take-nil, drop-drop, take-append-le, take-append-seam, drop-append-seam, drop-append-add, sets}
+use lib.ListN.{length, take, drop, set, length-append, length-take, length-drop, take-append-drop}
+use lib.Seq.{take-all, take-nil, take-append-le, take-append-seam, drop-append-seam, sets}
 use Rattle.rules.specs.Hits.{Hit, pairs, over, hitBuffer}
 use Rattle.rules.proofs.Hits.{pairs-append, pairs-length}
 
@@ -32,17 +32,6 @@ over-sets new (x ∷ more) old h =
     let size : length (new ++ (x ∷ [])) ≡ suc (length new) = omega (arith, length-append new (x ∷ [])) in
     let first : over (new ++ (x ∷ [])) old ≡ set (over new old) (length new) x = over-more new old x (omega arith) in
     ap (λ (l : List ℕ). over l old) (sym (append-assoc new (x ∷ []) more)) ∙ over-sets (new ++ (x ∷ [])) more old (omega arith) ∙ rw (first, size)
-
-pub over-all : (new old : List ℕ) → length old ≤ length new → over new old ≡ new
-unfolding over
-over-all new old h = rw (drop-of-length-le old h) (append-nil new)
-
--- what is laid over as much or more hides what lay there
-pub over-over : (a b old : List ℕ) → length b ≤ length a → over a (over b old) ≡ over a old
-unfolding over
-over-over a b old h =
-    let rest : length a ≡ length b + (length a - length b) = omega arith in
-    rw (rest, drop-append-add, drop-drop)
 
 -- the front and the rest
 pub over-front : (new old : List ℕ) → take (length new) (over new old) ≡ new

@@ -36,11 +36,6 @@ places-append n p (r ∷ L) M =
     places-append (suc n) p L M ∙ ap (λ (m : ℕ). places (suc n) p L ++ places m p M) at in
     either (p r) (λ t. rw (t, below)) (λ f. rw (f, below))
 
-pub places-snoc : (n : ℕ) (p : List ℕ → Bool) (L : List (List ℕ)) (w : List ℕ)
-    → places n p (L ++ (w ∷ [])) ≡ places n p L ++ cond (p w) ((n + length L) ∷ []) []
-unfolding places
-places-snoc n p L w = places-append n p L (w ∷ [])
-
 -- behind a row that passes the list goes on with its place
 pub places-split : (n : ℕ) (p : List ℕ → Bool) (L : List (List ℕ)) (i : ℕ)
     → i < length L
@@ -190,11 +185,6 @@ pub children-none : {R : List (List ℕ)} → Rowed R → (s : List ℕ) → pla
 children-none {R} rowed s h =
     children-first rowed s ∙ places-end 1 (childOf s) (drop 1 R) (omega arith) (sym (child-first rowed s) ∙ h)
 
--- the sibling number is the head of the children left behind a place, as the child number is of all (`placeFrom-head`)
-pub sibling-head : (R : List (List ℕ)) (i : ℕ) (r : List ℕ) → siblingAfter R i r ≡ getD (places (suc i) (childOf (parent r)) (drop (suc i) R)) 0 0
-unfolding siblingAfter
-sibling-head R i r = placeFrom-head (suc i) (childOf (parent r)) (drop (suc i) R)
-
 -- the sibling of a row whose parent is s
 pub sibling-cell : (R : List (List ℕ)) (s : List ℕ) (i : ℕ)
     → childOf s (getD R i []) ≡ true
@@ -225,10 +215,6 @@ sibling-more R s c i r q =
     let all : suc i + length (drop (suc i) R) ≡ length R = omega (arith, length-drop (suc i) R) in
     rw (drop-append-le (suc i) R (w ∷ []) q, ← (childOf-snoc (parent r) s c), ← all)
     (placeFrom-more (suc i) (childOf (parent r)) (drop (suc i) R) w (omega arith))
-
-pub children-more : (R : List (List ℕ)) (s : List ℕ) (c : ℕ) (r : List ℕ)
-    → places 0 (childOf r) (R ++ ((s ++ (c ∷ [])) ∷ [])) ≡ places 0 (childOf r) R ++ cond (same r s) (length R ∷ []) []
-children-more R s c r = rw (← (childOf-snoc r s c), ← (zero-add (length R))) (places-snoc 0 (childOf r) R (s ++ (c ∷ [])))
 
 pub new-child : {R : List (List ℕ)} → Rowed R → (w : List ℕ) → any (same w) R ≡ false → placeFrom 0 (childOf w) (R ++ (w ∷ [])) ≡ 0
 unfolding any
@@ -401,22 +387,6 @@ module _ {R : List (List ℕ)} (rowed : Rowed R) (s : List ℕ) (c : ℕ) where
       and-fails (same (parent r) s) (eqb cell 0)
       (λ e z. other (at-places (childOf s) R i q (rw (same-true (parent r) s e) at (row-child rowed i pos q))) (eqb-true cell 0 z)) in
       rw (sibling-more R s c i r q, unlinked)
-
--- Steps of a walk over the children of s. From a child's number on, every number above 0 is a child, above the one before it.
-pub child-next : (R : List (List ℕ)) (s : List ℕ) → 1 ≤ placeFrom 0 (childOf s) R → List·Memᴰ (placeFrom 0 (childOf s) R) (places 0 (childOf s) R)
-child-next R s pos =
-    let w = places-next 0 (childOf s) R pos in
-    at-places (childOf s) R (placeFrom 0 (childOf s) R) (w .within) (w .passing)
-
-pub sibling-next : (R : List (List ℕ)) (s : List ℕ) (i : ℕ)
-    → List·Memᴰ i (places 0 (childOf s) R)
-    → 1 ≤ siblingAfter R i (getD R i [])
-    → List·Memᴰ (siblingAfter R i (getD R i [])) (places 0 (childOf s) R) × (i < siblingAfter R i (getD R i []))
-sibling-next R s i m =
-    rw (sibling-cell R s i (places-at (childOf s) R i m .1))
-    (λ pos.
-    let w = places-next (suc i) (childOf s) R pos in
-    (at-places (childOf s) R (placeFrom (suc i) (childOf s) (drop (suc i) R)) (w .within) (w .passing), w .beyond))
 
 -- The question "which child of s has the byte c", put to the children behind the row `last`, the next of which is `at`.
 pub record Asking (R : List (List ℕ)) (s : List ℕ) (c last at : ℕ) : Type 0 where

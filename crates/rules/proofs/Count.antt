@@ -36,11 +36,6 @@ unfolding mostCommon
 mostCommon-append [] ws w = omega arith
 mostCommon-append (v ∷ vs) ws w = omega (arith, mostCommon-append vs ws w)
 
-pub common-append : (p a b : List ℕ) → common (p ++ a) (p ++ b) ≡ length p + common a b
-unfolding common
-common-append [] a b = omega arith
-common-append (x ∷ p) a b = rw (eq-eqb x x refl) (omega (arith, common-append p a b))
-
 -- one byte more is common where the whole begins the other word
 eqb-sym : (x y : ℕ) → eqb x y ≡ eqb y x
 eqb-sym x y = same-outcome (eqb x y) (eqb y x) (λ h. eq-eqb y x (sym (eqb-true x y h))) (λ h. eq-eqb x y (sym (eqb-true y x h)))

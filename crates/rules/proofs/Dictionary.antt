@@ -12,7 +12,7 @@ use Rattle.rules.specs.Sets.{Keyword, keywordsThatAre, isKeyword}
 use Rattle.rules.specs.Rows.{forward, readBy, starts}
 use Rattle.rules.specs.Hits.{endingAt}
 use Rattle.rules.specs.Audit.{Ordered, none, next}
-use Rattle.rules.proofs.Strings.{either, never, fails, same-true, same-refl, eq-same, any-true, any-mem, or-fails-left, or-fails-right}
+use Rattle.rules.proofs.Strings.{never, fails, same-true, same-refl, eq-same, any-true, any-mem, or-fails-left, or-fails-right}
 use Rattle.rules.proofs.Rows.{keyword-starts}
 use Rattle.rules.proofs.State.{at-longest, longest-nil, longest-cond, longest-behind}
 
@@ -63,16 +63,6 @@ keywordsThatAre-one (next {a} {l} apart rest) k m = go (List·Memᴰ·cases-cons
     go (inr m′) below =
         rw (fails (same (a .word) (k .word)) (λ t. apart k m′ (same-true (a .word) (k .word) t)))
         (below m′)
-
-pub keywordsThatAre-length : {ks : List Keyword}
-    → Ordered (λ (k l : Keyword). k .word ≡ l .word → ⊥) ks
-    → (s : List ℕ) → length (keywordsThatAre s ks) ≤ 1
-keywordsThatAre-length {ks} distinct s =
-    either (isKeyword ks s)
-    (λ t.
-    let w = isKeyword-true ks s t in
-    omega (arith, ap length (rw (w .2) at (keywordsThatAre-one distinct (w .0) (w .1)))))
-    (λ f. omega (arith, ap length (keywordsThatAre-none ks s f)))
 
 -- a test that every keyword passes
 module _ (ks : List Keyword) (p : List ℕ → Bool) (all : (k : Keyword) → List·Memᴰ k ks → p (k .word) ≡ true) where
@@ -143,10 +133,3 @@ module _ (ks : List Keyword) (filled : (k : Keyword) → List·Memᴰ k ks → 1
   unfolding longestBehind
   ending-behind [] = rw (keywordsThatAre-none ks [] isKeyword-nil)
   ending-behind (a ∷ r) = ending-dictionary ks (a ∷ r) (omega arith)
-
-  -- and distinct: a keyword's own hit first
-  module _ (distinct : Ordered (λ (k l : Keyword). k .word ≡ l .word → ⊥) ks) where
-    pub ending-keyword : (k : Keyword)
-        → List·Memᴰ k ks
-        → endingAt ks (k .word) ≡ k ∷ endingAt ks (longestBehind (isKeyword ks) (k .word))
-    ending-keyword k m = ending-dictionary ks (k .word) (filled k m) ∙ rw (keywordsThatAre-one distinct k m)

@@ -214,7 +214,3 @@ unfolding energy
 energy-most [] each = omega arith
 energy-most (h ∷ hs) each =
     omega (arith, each h (List·Memᴰ·head refl), energy-most hs (λ g m. each g (List·Memᴰ·tail m)))
-
-pub hits-energy : {ks : List Keyword} → Sound ks → (t : List ℕ) → energy (hits ks t) ≤ 65535 * length (hits ks t)
-hits-energy {ks} sound t =
-    energy-most (hits ks t) (λ h m. sound .figures (h .keyword) (hits-occur ks t h m .listed))

@@ -10,16 +10,12 @@ use Rattle.rules.specs.Sets.{Keyword}
 use Rattle.rules.specs.Rows.{forward, starts}
 use Rattle.rules.specs.Questions.{questionsAt, questionsAfter, questions, mostQuestions}
 use Rattle.rules.proofs.Rows.{starts-closed}
-use Rattle.rules.proofs.State.{askedBy, asked-state, asked-le, asked-grow, longest-nil}
+use Rattle.rules.proofs.State.{askedBy, asked-le, asked-grow, longest-nil}
 
 -- the questions at a byte are those of its state
 pub questions-asked : (ks : List Keyword) (u : List ℕ) (c : ℕ) → questionsAt ks u c ≡ askedBy (starts forward ks) u c
 unfolding questionsAt askedBy
 questions-asked ks u c = refl
-
-pub questions-at-state : (ks : List Keyword) (u : List ℕ) (c : ℕ) → questionsAt ks u c ≡ questionsAt ks (longest (starts forward ks) u) c
-unfolding questionsAt askedBy
-questions-at-state ks u c = asked-state (starts forward ks) u c
 
 -- a trace in two parts
 pub questions-append : (ks : List Keyword) (u a b : List ℕ) → questionsAfter ks u (a ++ b) ≡ questionsAfter ks u a + questionsAfter ks (u ++ a) b

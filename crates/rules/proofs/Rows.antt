@@ -314,19 +314,6 @@ module _ {R : List (List ℕ)} (rowed : Rowed R) where
       absurd (omega (arith, ap length empty)))
       (λ f. omega (arith, eqb-false (rowOf R s) 0 f))
 
-  pub rowOf-behind : (s : List ℕ) (c : ℕ) → any (same (s ++ (c ∷ []))) R ≡ true → rowOf R s < rowOf R (s ++ (c ∷ []))
-  rowOf-behind s c h =
-      let (within, reads) = rowOf-is R (s ++ (c ∷ [])) h in
-      rowed .parents (rowOf R (s ++ (c ∷ []))) s c within reads
-
-  -- every beginning of a row is one
-  pub rowed-closed : (s r : List ℕ) → any (same (s ++ r)) R ≡ true → any (same s) R ≡ true
-  rowed-closed s r =
-      by-snoc (λ (r : List ℕ). any (same (s ++ r)) R ≡ true → any (same s) R ≡ true)
-      (λ h. rw (append-nil s) at h)
-      (λ u c below h. below (rowed .closed (s ++ u) c (rw (← (append-assoc s u (c ∷ []))) at h)))
-      r
-
 -- row 0 alone
 filled : {C : Type 0} (s : List ℕ) (c : ℕ) → s ++ (c ∷ []) ≡ [] → C
 filled s c e = absurd (omega (arith, length-append s (c ∷ []), ap length e))

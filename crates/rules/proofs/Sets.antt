@@ -259,6 +259,3 @@ file-sound s small v =
 
     smallAt : (i b : ℕ) → List·Memᴰ b (recordAt s i) → b < opcodes
     smallAt i b m = small b (mem-drop (recordSize * i) s (mem-take recordSize (drop (recordSize * i) s) m))
-
-pub set-sound : (way : Way) (s : List ℕ) → ((b : ℕ) → List·Memᴰ b s → b < opcodes) → setVerdict way s ≡ pass → Sound (keywords s)
-set-sound way s small v = file-sound s small (set-passed way s v .file)

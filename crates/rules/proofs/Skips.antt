@@ -4,13 +4,13 @@ use Prim.Native.Nat.{ℕ, _+_, _-_, _≤_, _<_, min, max}
 use native.Mathlib.Omega.{arith}
 use mathlib.Core.Path.{_≡_, refl, sym, _∙_, ap}
 use mathlib.Core.Logic.{_⊎_, inl, inr}
-use mathlib.Core.Bool.{Bool, true, _&&_, _||_}
+use mathlib.Core.Bool.{true, _&&_, _||_}
 use mathlib.Core.List.{List, [], _∷_, _++_, reverse, reverse-cons, append-assoc, append-nil, List·Memᴰ}
 use lib.ListN.{length, take, length-append, length-take}
 use lib.Seq.{take-at}
 use lib.Dec.{leb}
 use borrow.Author.Tests.{leb-true, leb-false, le-leb}
-use Rattle.rules.specs.Strings.{any, ends}
+use Rattle.rules.specs.Strings.{ends}
 use Rattle.rules.specs.Sets.{Keyword, shortest}
 use Rattle.rules.specs.Skips.{holdsBefore, endsWithin, innerTest, inner, edgeTest, edge, farTest, far}
 use Rattle.rules.specs.Runs.{Stop, start, missing, moveBy}

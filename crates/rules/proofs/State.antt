@@ -2,7 +2,7 @@
 -- go, and what they do not change is the same at both, by recursion along u.
 use Prim.Native.Nat.{ℕ, suc, _+_, _≤_, _<_}
 use native.Mathlib.Omega.{arith}
-use mathlib.Core.Path.{_≡_, refl, sym, _∙_, ap}
+use mathlib.Core.Path.{_≡_, refl, _∙_, ap}
 use mathlib.Core.Logic.{_⊎_, inl, inr}
 use mathlib.Core.Bool.{Bool, true, false, cond}
 use mathlib.Core.List.{List, [], _∷_, _++_, append-assoc, append-nil}
@@ -69,27 +69,9 @@ module _ (p : List ℕ → Bool) where
   pub longest-or : (u : List ℕ) → (p (longest p u) ≡ true) ⊎ (longest p u ≡ [])
   longest-or = by-longest (λ u s. (p s ≡ true) ⊎ (s ≡ [])) (inr refl) (λ x u t below. inl t) (λ x u f below. below)
 
-  pub longest-suffix : (u : List ℕ) → (r : List ℕ) × (u ≡ r ++ longest p u)
-  longest-suffix =
-      by-longest (λ u s. (r : List ℕ) × (u ≡ r ++ s)) ([], refl)
-      (λ x u t below. ([], refl))
-      (λ x u f below. (x ∷ below .0, ap (λ (l : List ℕ). x ∷ l) (below .1)))
-
-  pub suffix-longest : (r s : List ℕ) → p s ≡ true → (q : List ℕ) × (longest p (r ++ s) ≡ q ++ s)
-  suffix-longest [] s h = ([], longest-of s h)
-  suffix-longest (x ∷ r) s h =
-      either (p (x ∷ (r ++ s)))
-      (λ t. (x ∷ r, longest-of (x ∷ (r ++ s)) t))
-      (λ f.
-      let below = suffix-longest r s h in
-      (below .0, longest-behind x (r ++ s) f ∙ below .1))
-
   pub longest-length : (u : List ℕ) → length (longest p u) ≤ length u
   longest-length =
       by-longest (λ u s. length s ≤ length u) (omega arith) (λ x u t below. omega arith) (λ x u f below. omega arith)
-
-  pub longest-longest : (u : List ℕ) → longest p (longest p u) ≡ longest p u
-  longest-longest u = sym (at-longest (longest p) longest-behind u)
 
   -- the longest proper suffix that passes: all there is to try when the whole fails
   pub longest-cond : (u : List ℕ) → longest p u ≡ cond (p u) u (longestBehind p u)

@@ -3,10 +3,10 @@ use Prim.Native.Nat.{ℕ}
 use mathlib.Core.Path.{_≡_, refl, sym, _∙_, ap}
 use mathlib.Core.Logic.{_⊎_, inl, inr}
 use mathlib.Core.Bool.{Bool, true, false, _&&_, _||_, cond, true≢false, or-assoc}
-use mathlib.Core.List.{List, [], _∷_, _++_, reverse, reverse-append, reverse-reverse, append-nil, List·Memᴰ, List·Memᴰ·head, List·Memᴰ·tail, List·Memᴰ·not-nil, List·Memᴰ·cases-cons, List·Memᴰ·eq-of-singleton}
+use mathlib.Core.List.{List, [], _∷_, _++_, append-nil, List·Memᴰ, List·Memᴰ·head, List·Memᴰ·tail, List·Memᴰ·not-nil, List·Memᴰ·cases-cons, List·Memᴰ·eq-of-singleton}
 use lib.Dec.{eqb}
 use borrow.Author.Tests.{eqb-true, eq-eqb}
-use Rattle.rules.specs.Strings.{same, begins, suffixes, any, ends, keep, firstOr}
+use Rattle.rules.specs.Strings.{same, begins, suffixes, any, ends, keep}
 
 -- cases on a test that keep its outcome as an equation
 pub either {ℓ} : {C : Type ℓ} (b : Bool) → (b ≡ true → C) → (b ≡ false → C) → C
@@ -180,25 +180,6 @@ ends-append r e = any-mem (same e) (suffixes-append r e) (same-refl e)
 pub ends-by : (e s r : List ℕ) → s ≡ r ++ e → ends e s ≡ true
 ends-by e s r q = rw q (ends-append r e)
 
-pub ends-refl : (e : List ℕ) → ends e e ≡ true
-ends-refl e = ends-append [] e
-
--- what ends a string begins it turned round
-pub ends-begins : (e s : List ℕ) → ends e s ≡ begins (reverse e) (reverse s)
-ends-begins e s =
-    same-outcome (ends e s) (begins (reverse e) (reverse s))
-    (λ h.
-    let w = ends-true e s h in
-    begins-by (reverse e) (reverse s) (reverse (w .0)) (ap reverse (w .1) ∙ reverse-append (w .0) e))
-    (λ h.
-    let w = begins-true (reverse e) (reverse s) h in
-    let turned : s ≡ reverse (w .0) ++ e =
-    sym (reverse-reverse s)
-    ∙ ap reverse (w .1)
-    ∙ reverse-append (reverse e) (w .0)
-    ∙ ap (λ (l : List ℕ). reverse (w .0) ++ l) (reverse-reverse e) in
-    ends-by e s (reverse (w .0)) turned)
-
 -- keep: the members that pass
 pub keep-mem {ℓ} : {A : Type ℓ} (p : A → Bool) {a : A} (l : List A) → List·Memᴰ a (keep p l) → List·Memᴰ a l × (p a ≡ true)
 unfolding keep
@@ -227,24 +208,3 @@ mem-keep {A = A} p {a} (List·Memᴰ·tail {x = x} {xs = xs} m) q = go (p x) (me
     go : (t : Bool) → List·Memᴰ a (keep p xs) → List·Memᴰ a (cond t (x ∷ keep p xs) (keep p xs))
     go true m′ = List·Memᴰ·tail m′
     go false m′ = m′
-
-pub keep-append {ℓ} : {A : Type ℓ} (p : A → Bool) (a b : List A) → keep p (a ++ b) ≡ keep p a ++ keep p b
-unfolding keep
-keep-append p [] b = refl
-keep-append {A = A} p (x ∷ a) b = go (p x) (keep-append p a b)
-  where
-    go : (t : Bool) → keep p (a ++ b) ≡ keep p a ++ keep p b → cond t (x ∷ keep p (a ++ b)) (keep p (a ++ b)) ≡ cond t (x ∷ keep p a) (keep p a) ++ keep p b
-    go true e = ap (λ (l : List A). x ∷ l) e
-    go false e = e
-
--- firstOr passes where any does
-pub firstOr-passes {ℓ} : {A : Type ℓ} (d : A) (p : A → Bool) (l : List A) → any p l ≡ true → p (firstOr d p l) ≡ true
-unfolding any firstOr
-firstOr-passes d p [] h = never {b = true} refl (sym h)
-firstOr-passes d p (a ∷ l) h =
-    either (p a)
-    (λ t. rw t t)
-    (λ f. rw f (firstOr-passes d p l (or-right-of f h)))
-  where
-    or-right-of : p a ≡ false → (p a || any p l) ≡ true → any p l ≡ true
-    or-right-of f q = rw f at q

@@ -1,7 +1,7 @@
 -- How the tests of a job join: by cases on each verdict.
 use Prim.Native.Nat.{ℕ}
 use mathlib.Core.Path.{_≡_, refl, _∙_}
-use mathlib.Core.Logic.{_⊎_, inl, inr, ⊎-elim, _↔_}
+use mathlib.Core.Logic.{_⊎_, inl, inr, _↔_}
 use mathlib.Core.Bool.{Bool, true, false}
 use native.Mathlib.Omega.{arith}
 use Rattle.rules.specs.Refusals.{Verdict, pass, refuse, refuseIf, orElse}
@@ -13,9 +13,6 @@ verdict-cases (refuse n p) = inr (n, p, refl)
 
 pub refuse-no-pass : {n p : ℕ} → refuse n p ≡ pass → ⊥
 refuse-no-pass e = let z : _≡_ {A = ℕ} 0 1 = cc in omega arith
-
-pub not-pass : (v : Verdict) → (v ≡ pass → ⊥) → (n : ℕ) × (p : ℕ) × (v ≡ refuse n p)
-not-pass v f = ⊎-elim (λ e. absurd (f e)) (λ w. w) (verdict-cases v)
 
 -- orElse: both pass where the whole does; the first refusal is the whole's
 pub orElse-pass : (v w : Verdict) → orElse v w ≡ pass → (v ≡ pass) × (w ≡ pass)

@@ -2,13 +2,11 @@
 use rules::Refusal;
 use rules::Way;
 ghost use mathlib.Core.Path.{_≡_};
-ghost use mathlib.Core.Bool.{Bool};
-ghost use mathlib.Core.List.{List, map};
-ghost use Prim.Native.Nat.{ℕ, _+_, _*_, _/_, _<_, _≤_};
+ghost use Prim.Native.Nat.{_+_, _*_, _/_, _<_, _≤_};
 ghost use lib.ListN.{length, getD};
 ghost use Rattle.rules.specs.Sets.{keywords, keywordsFrom, keywordAt, recordAt, shortest, isKeyword};
 ghost use Rattle.rules.specs.Rows.{rowsOf};
-ghost use Rattle.rules.specs.Refusals.{pass, fileVerdict, recordVerdict, recordVerdicts};
+ghost use Rattle.rules.specs.Refusals.{pass, fileVerdict, recordVerdict};
 ghost use Rattle.rules.specs.Strings.{same, common, mostCommon};
 ghost use Rattle.sets.specs.Words.{Holds, Stated, Good, wayOf, readAt, earlier, verdictOf, Tested, paddingFault};
 

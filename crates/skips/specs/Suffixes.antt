@@ -2,14 +2,14 @@
 use Prim.Native.Nat.{ℕ, _+_, _-_, _*_, _≤_, _<_}
 use mathlib.Core.Path.{_≡_}
 use mathlib.Core.Bool.{Bool}
-use mathlib.Core.List.{List, [], _∷_, _++_}
+use mathlib.Core.List.{List, [], _++_}
 use lib.ListN.{length, take, drop, getD}
 use Rattle.rules.specs.Limits.{rowRecord}
 use Rattle.rules.specs.Strings.{any, mostCommon}
 use Rattle.rules.specs.Sets.{Keyword, keywords, keywordsFrom, keywordAt, shortest}
 use Rattle.rules.specs.Rows.{backward, rowsOf}
 use Rattle.rules.specs.Refusals.{pass, fileVerdict}
-use Rattle.rules.specs.Skips.{inner, edge, holdsBefore, endsWithin, named, suffixRows}
+use Rattle.rules.specs.Skips.{inner, edge, holdsBefore, endsWithin, suffixRows}
 use Rattle.sets.specs.Words.{earlier, readAt}
 use Rattle.skips.specs.declared.suffixes.Place.{Place}
 use Rattle.skips.specs.declared.numbers.Number.{Number}

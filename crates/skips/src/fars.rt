@@ -1,7 +1,7 @@
 // The far numbers of all bytes at all depths, as 256 records of sixteen numbers held by value.
 use sets::length_of;
 ghost use mathlib.Core.Path.{_≡_};
-ghost use Prim.Native.Nat.{ℕ, _+_, _*_, _<_, _≤_};
+ghost use Prim.Native.Nat.{_+_, _<_, _≤_};
 ghost use lib.ListN.{length};
 ghost use Rattle.rules.specs.Sets.{keywords, shortest};
 ghost use Rattle.rules.specs.Refusals.{pass, fileVerdict};

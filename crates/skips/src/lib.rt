@@ -15,7 +15,6 @@ use rules::Refusal;
 use rules::Tabled;
 use rules::Way;
 use sets::shortest_of;
-ghost use Prim.Native.Nat.{ℕ};
 ghost use Rattle.rules.specs.Answers.{toldTable};
 ghost use Rattle.rules.specs.Promises.{Make, Check};
 ghost use Rattle.skips.specs.Beginning.{Begun};

@@ -1,7 +1,7 @@
 // inner and edge of a suffix, as document 01 words them: against every keyword at every distance. A suffix is the last z bytes of keyword i.
 use sets::length_of;
 ghost use mathlib.Core.Path.{_≡_};
-ghost use Prim.Native.Nat.{ℕ, _+_, _*_, _<_, _≤_};
+ghost use Prim.Native.Nat.{_+_, _*_, _<_, _≤_};
 ghost use lib.ListN.{length, take, drop};
 ghost use Rattle.rules.specs.Strings.{same};
 ghost use Rattle.rules.specs.Sets.{keywords, keywordAt, shortest};
