@@ -1,4 +1,4 @@
--- How far a window moves on, by the files' numbers: edge where no byte is left before it, else edge, inner and far.
+-- The move is the definition's, since the code takes the lesser and the greater of the files' numbers by the same cases.
 use Prim.Native.Nat.{ℕ, zero, suc, min, max}
 use mathlib.Core.Path.{_≡_, refl}
 use mathlib.Core.List.{List}

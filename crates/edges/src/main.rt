@@ -151,6 +151,7 @@ fn sizes() {
     case(b"65 records and a byte", &set, 1171);
 }
 
+// The lengths about the limits, in the first record and in the last.
 fn lengths() {
     let longest = family(15, 0, 1, 0, 1);
     case(b"length 15", &longest, 18);
@@ -165,6 +166,7 @@ fn lengths() {
     case(b"length 0", &none, 18);
 }
 
+// The first and the last place behind a keyword, and what is no padding.
 fn paddings() {
     let mut first = family(1, 0, 0, 1, 0);
     put(&mut first, place(0, 2), 1);
@@ -194,6 +196,7 @@ fn zeros() {
     case(b"7 and 7 0", &other, 36);
 }
 
+// A keyword that has come before, right behind it and far behind.
 fn repeats() {
     let set = family(1, 0, 7, 0, 0);
     case(b"record 1 as record 0", &set, 36);
@@ -224,6 +227,7 @@ fn several() {
     case(b"record 1 as record 0, length 0 in record 2", &same, 54);
 }
 
+// How many rows there are where keywords share nothing, a beginning or an end.
 fn rows() {
     let most = family(15, 0, 0, 1, 1);
     case(b"64 of 15 bytes, nothing shared", &most, 1152);
@@ -251,6 +255,7 @@ fn bench() {
     case(b"set W", &set, 54);
 }
 
+// All cases, a line each.
 fn main() {
     sizes();
     lengths();

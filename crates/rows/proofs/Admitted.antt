@@ -1,4 +1,4 @@
--- What a set, a trace and a workspace that passed the tests 1 to 9 are: every job that follows begins with this.
+-- A set, a trace and a workspace that passed the tests 1 to 9 are within the limits, for each test refuses what is beyond its own.
 use Prim.Native.Nat.{ℕ, _*_, _≤_}
 use mathlib.Core.Path.{_≡_}
 use mathlib.Core.List.{List}

@@ -1,4 +1,4 @@
--- A hit buffer read back: its pairs are the hits one by one, as far as there is room.
+-- The pairs of a hit buffer are the hits one by one, since each hit takes two numbers and those in front fill the buffer first.
 use Prim.Native.Nat.{ℕ, zero, suc, _+_, _*_, _/_, _<_, min}
 use mathlib.Core.Path.{_≡_, refl, sym, _∙_, ap}
 use mathlib.Core.List.{List, [], _∷_, List·Memᴰ, List·Memᴰ·head, List·Memᴰ·tail}

@@ -1,4 +1,4 @@
--- What a set that passed its tests is: each record's tests, taken one record at a time.
+-- A set that passed is good because each of its records passed its own tests, taken one record at a time.
 use Prim.Native.Nat.{ℕ, zero, suc, _+_, _-_, _*_, _/_, _%_, _≤_, _<_}
 use mathlib.Core.Path.{_≡_, refl, sym, _∙_, ap}
 use mathlib.Core.Logic.{⊎-elim}

@@ -44,6 +44,7 @@ pub record Told : Type 0 where
 abbrev pub toldRefusal : ℕ → ℕ → Told
 toldRefusal n p = record { number = n; place = p; count = 0; questions = 0; energy = 0 }
 
+-- what a scan answers
 abbrev pub told : Scanned → Told
 told (Scanned.Found t) =
     record { number = 0; place = 0; count = t .count; questions = t .questions; energy = t .energy }
@@ -53,6 +54,7 @@ told (Scanned.Refused r) = toldRefusal (numberOf r) (placeOf r)
 abbrev pub toldRows : ℕ → Told
 toldRows n = record { number = 0; place = 0; count = n; questions = 0; energy = 0 }
 
+-- what making and the check answer
 abbrev pub toldTable : Tabled → Told
 toldTable (Tabled.Rows n) = toldRows n
 toldTable (Tabled.Refused r) = toldRefusal (numberOf r) (placeOf r)

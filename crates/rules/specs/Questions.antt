@@ -15,6 +15,7 @@ unfoldable pub questionsAfter : List Keyword → List ℕ → List ℕ → ℕ
 questionsAfter ks u [] = 0
 questionsAfter ks u (c ∷ t) = questionsAt ks u c + questionsAfter ks (u ++ (c ∷ [])) t
 
+-- the questions of a trace
 unfoldable pub questions : List Keyword → List ℕ → ℕ
 questions ks t = questionsAfter ks [] t
 

@@ -1,4 +1,4 @@
--- The rows of a set and its shortest keyword, one keyword more at a time.
+-- A keyword more adds the rows that it does not share and can only lower the least length, so both follow keyword by keyword.
 use Prim.Native.Nat.{ℕ, _+_, _-_, _≤_, min, max}
 use native.Mathlib.Omega.{arith}
 use native.Mathlib.Numerals.{add-one}

@@ -1,4 +1,4 @@
--- The tests of a whole file in the order of the table: its size first, then its records one by one.
+-- A file's verdict is the first of its tests that shows a fault: its size decides, or the first record that does not pass.
 use Prim.Native.Nat.{ℕ, _/_, _%_, _≤_, _<_}
 use native.Mathlib.Omega.{arith}
 use mathlib.Core.Path.{_≡_, sym, _∙_}

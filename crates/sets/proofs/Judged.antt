@@ -1,4 +1,4 @@
--- The tests of one record in the order of the table, by the length that it states.
+-- A record's verdict is the first of its tests that shows a fault, so each way out of the code is one line of the table.
 use Prim.Native.Nat.{ℕ, _+_, _*_, _≤_, _<_}
 use mathlib.Core.Path.{_≡_, sym, _∙_}
 use mathlib.Core.Bool.{true, false, _||_}

@@ -44,6 +44,7 @@ pub record Stated (s : List ℕ) (i n : ℕ) : Type 0 where
 unfoldable pub paddingFault : List ℕ → ℕ → ℕ → Bool
 paddingFault s i n = any (λ b. not (eqb b 0)) (take (longestWord - n) (drop (1 + n) (recordAt s i)))
 
+-- the verdict that the tests 1 to 6 tell
 unfoldable pub verdictOf : Verified → Verdict
 verdictOf (Keywords n) = pass
 verdictOf (Refused r) = refuse (numberOf r) (placeOf r)

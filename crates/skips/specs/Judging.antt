@@ -13,6 +13,7 @@ use Rattle.rules.specs.Answers.{numberOf, placeOf}
 use Rattle.skips.specs.declared.judge.Judged.{Judged}
 use Rattle.skips.specs.declared.judge.Judged.the-variants.{Safe, Refused}
 
+-- the verdict that the tests 10 to 14 tell
 unfoldable pub judgedVerdict : Judged → Verdict
 judgedVerdict Safe = pass
 judgedVerdict (Refused r) = refuse (numberOf r) (placeOf r)

@@ -59,7 +59,7 @@ pub record Reached (s : List ℕ) (rows i z : ℕ) : Type 0 where
   pub shared : sharedAt s i ≤ z
   pub counted : rows + sharedAt s i ≡ rowsBefore s i + z
 
--- the backward row of that number is this suffix, met there for the first time
+-- the backward row of that number is this suffix
 pub record At (s : List ℕ) (row : ℕ) (at : Place) : Type 0 where
   pub reached : Reached s (row + 1) (at .keyword) (at .depth)
   pub within : row < length (rowsOf backward (keywords s))

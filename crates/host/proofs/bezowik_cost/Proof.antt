@@ -1,4 +1,4 @@
--- The forward scan in a workspace that is always enough, told in twenty bytes.
+-- The forward scan runs in a workspace that is always enough, so its answer is the host call's, and that is what is written.
 use native.Mathlib.Omega.{arith}
 use denote.Ref.{now}
 use Rattle.host.specs.Calls.{toldOf}

@@ -1,4 +1,4 @@
--- Making, told in twenty bytes.
+-- A short answer is refused before anything is touched; else making's promise holds, and its answer is what is written.
 use denote.Ref.{now}
 use Rattle.host.specs.Calls.{toldOf}
 use Rattle.host.proofs.Telling.{make-short, make-called}

@@ -1,4 +1,4 @@
--- What the first tests say, the buffers' room, and the two files put at their fronts.
+-- Each way out is a line of the table, and past the last of them both files fit at the fronts of their buffers.
 use native.Mathlib.Omega.{arith}
 use mathlib.Core.Path.{refl}
 use borrow.Author.Needs.{needs}

@@ -1,4 +1,4 @@
--- The two functions below give the refusal's number and place, and the other three are zero.
+-- `number_of` and `place_of` give the refusal's number and place, and the other three are zero.
 use mathlib.Core.Path.{ap₂}
 use borrow.Author.Needs.{needs}
 use Rattle.rules.specs.Answers.{toldRefusal}
