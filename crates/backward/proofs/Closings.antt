@@ -6,6 +6,7 @@ use mathlib.Core.Path.{_≡_, sym}
 use mathlib.Core.List.{List, [], _∷_, _++_, map, map-append, reverse, reverse-cons, append-assoc, append-nil, List·Memᴰ}
 use lib.ListN.{length, take, drop, getD, length-append, length-take, length-map, length-reverse, length-drop, drop-of-length-le}
 use lib.Seq.{drop-cons, getD-take}
+use Rattle.rules.specs.Limits.{mostEnergy}
 use Rattle.rules.specs.Sets.{keywords, keywordAt}
 use Rattle.rules.specs.Hits.{Hit, energy}
 use Rattle.rules.proofs.Sets.{file-passed, file-length, length-keywords, getD-keywords}
@@ -27,7 +28,7 @@ partOf s end keys met left = map (hitOf s end) (reverse (drop left (take met key
 
 -- they are listed behind `done`
 pub record Closed (s : List ℕ) (end : ℕ) (keys : List ℕ) (met left : ℕ) (done : List Hit) (old : List ℕ) (tally : Tally) (hs : List ℕ) : Type 0 where
-  pub little : energy (done ++ partOf s end keys met left) ≤ 65535 * length (done ++ partOf s end keys met left)
+  pub little : energy (done ++ partOf s end keys met left) ≤ mostEnergy * length (done ++ partOf s end keys met left)
   pub tallied : Tallied (done ++ partOf s end keys met left) old tally hs
 
 module _ {s : List ℕ} {end : ℕ} {keys : List ℕ} {met : ℕ} {done : List Hit} {old : List ℕ} {tally : Tally} {hs : List ℕ}
@@ -78,7 +79,7 @@ module _ {s : List ℕ} {end : ℕ} {keys : List ℕ} {met : ℕ} {done : List H
     closed-more tallied =
         let before = done ++ partOf s end keys met (suc left) in
         let h = hitOf s end (getD keys left 0) in
-        let figure : keywordAt s (getD keys left 0) .energy < 65536 = closing .sound .figures (keywordAt s (getD keys left 0)) (number-mem s (getD keys left 0) (closing .known left more)) in
+        let figure : keywordAt s (getD keys left 0) .energy ≤ mostEnergy = closing .sound .figures (keywordAt s (getD keys left 0)) (number-mem s (getD keys left 0) (closing .known left more)) in
         record {
           little = rw joined (omega (arith, energy-append before (h ∷ []), length-append before (h ∷ []), closed .little, figure));
           tallied = rw joined tallied;

@@ -3,7 +3,7 @@ use Prim.Native.Nat.{ℕ, zero, suc, _+_, _*_, _≤_, _<_}
 use mathlib.Core.Path.{_≡_}
 use mathlib.Core.List.{List, map, reverse, List·Memᴰ}
 use lib.ListN.{length, take, getD}
-use Rattle.rules.specs.Limits.{longestWord, longestTrace, rowRecord, depths, opcodes, byteFileSize}
+use Rattle.rules.specs.Limits.{longestWord, longestTrace, rowRecord, depths, opcodes, byteFileSize, mostEnergy}
 use Rattle.rules.specs.Sets.{keywords}
 use Rattle.rules.specs.Rows.{backward}
 use Rattle.rules.specs.Hits.{Hit, hits, energy}
@@ -45,7 +45,7 @@ pub record Closing (s : List ℕ) (end : ℕ) (keys : List ℕ) (met : ℕ) (don
   pub fits : met ≤ longestWord
   pub known : (j : ℕ) → j < met → getD keys j 0 < length (keywords s)
   pub few : length done + met ≤ longestWord * longestTrace
-  pub little : energy done ≤ 65535 * length done
+  pub little : energy done ≤ mostEnergy * length done
   pub tallied : Tallied done old tally hs
 
 -- the set passed, the trace is one of bytes, the table is safe, and the workspace holds the backward rows

@@ -7,6 +7,8 @@ use rows::enter::Entered;
 use rows::enter::enter;
 use rows::lay;
 use rows::tree::ask;
+use rules::DEPTHS;
+use rules::ROW;
 use rules::Scanned;
 use rules::Totals;
 use rules::Way;
@@ -41,12 +43,12 @@ fn move_on(
     requires { ⌜ Moving (now «row_file») (now «byte_file») row depth missing ⌝ }
     ensures { λ r. ⌜ (r ≡ moveIn (now («row_file» .entry)) (now («byte_file» .entry)) row depth unread missing) × (r < 256) ⌝ }
 {
-    let edge = wide(row_file[18 * row + 17]);
+    let edge = wide(row_file[ROW * row + 17]);
     if unread == 0 {
         return edge;
     }
-    let inner = wide(row_file[18 * row + 16]);
-    let far = wide(byte_file[16 * missing + depth]);
+    let inner = wide(row_file[ROW * row + 16]);
+    let far = wide(byte_file[DEPTHS * missing + depth]);
     let mut skip = inner;
     if inner < far {
         skip = far;

@@ -3,7 +3,7 @@ use Prim.Native.Nat.{ℕ, _+_, _*_, _/_, _≤_, _<_, min}
 use mathlib.Core.Path.{_≡_}
 use mathlib.Core.List.{List}
 use lib.ListN.{length}
-use Rattle.rules.specs.Limits.{recordSize, longestWord, mostKeywords, longestTrace}
+use Rattle.rules.specs.Limits.{recordSize, longestWord, mostKeywords, longestTrace, mostEnergy}
 use Rattle.rules.specs.Sets.{keywordAt}
 use Rattle.rules.specs.Hits.{Hit, energy, hitBuffer}
 use Rattle.hits.specs.declared.Tally.{Tally}
@@ -25,5 +25,5 @@ pub record Hitting (s : List ℕ) (end k : ℕ) (done : List Hit) (old : List �
   pub small : k < mostKeywords
   pub near : end ≤ longestTrace
   pub few : length done ≤ longestWord * longestTrace
-  pub little : energy done ≤ 65535 * length done
+  pub little : energy done ≤ mostEnergy * length done
   pub tallied : Tallied done old tally hs

@@ -6,6 +6,8 @@ use crate::answer::from_tabled;
 use crate::answer::write;
 use backward::scan as scan_backward;
 use forward::scan;
+use rules::ANSWER;
+use rules::WORKSPACE;
 use skips::check;
 use skips::make;
 ghost use Rattle.rules.specs.Promises.{Host};
@@ -16,10 +18,10 @@ ghost use Rattle.host.specs.Calls.{ForwardCall, BackwardCall, MakeCall, 
 pub extern "C" fn bezowik_cost(set: &[u8], trace: &[u8], answer: &mut [u8]) -> u16
     ensures { λ r. ⌜ Host (now (set .entry)) (now (trace .entry)) (now (answer .entry)) r (now (answer .exit)) ⌝ }
 {
-    if answer.len() < 20 {
+    if answer.len() < ANSWER {
         return 17;
     }
-    let mut workspace = [0u16; 5766];
+    let mut workspace = [0u16; WORKSPACE];
     let mut hits = [0u32; 1];
     let found = from_scanned(scan(set, trace, &mut workspace, &mut hits));
     write(answer, found);
@@ -37,7 +39,7 @@ pub extern "C" fn bezowik_forward(
 ) -> u16
     ensures { λ r. ⌜ ForwardCall (now (set .entry)) (now (trace .entry)) (now (workspace .entry)) (now (hits .entry)) (now (answer .entry)) r (now (workspace .exit)) (now (hits .exit)) (now (answer .exit)) ⌝ }
 {
-    if answer.len() < 20 {
+    if answer.len() < ANSWER {
         return 17;
     }
     let found = from_scanned(scan(set, trace, workspace, hits));
@@ -58,7 +60,7 @@ pub extern "C" fn bezowik_backward(
 ) -> u16
     ensures { λ r. ⌜ BackwardCall (now (set .entry)) (now (trace .entry)) (now («row_file» .entry)) (now («byte_file» .entry)) (now (workspace .entry)) (now (hits .entry)) (now (answer .entry)) r (now (workspace .exit)) (now (hits .exit)) (now (answer .exit)) ⌝ }
 {
-    if answer.len() < 20 {
+    if answer.len() < ANSWER {
         return 17;
     }
     let found = from_scanned(scan_backward(set, trace, row_file, byte_file, workspace, hits));
@@ -77,7 +79,7 @@ pub extern "C" fn bezowik_make(
 ) -> u16
     ensures { λ r. ⌜ MakeCall (now (set .entry)) (now (workspace .entry)) (now («row_buffer» .entry)) (now («byte_buffer» .entry)) (now (answer .entry)) r (now (workspace .exit)) (now («row_buffer» .exit)) (now («byte_buffer» .exit)) (now (answer .exit)) ⌝ }
 {
-    if answer.len() < 20 {
+    if answer.len() < ANSWER {
         return 17;
     }
     let made = from_tabled(make(set, workspace, row_buffer, byte_buffer));
@@ -96,7 +98,7 @@ pub extern "C" fn bezowik_check(
 ) -> u16
     ensures { λ r. ⌜ CheckCall (now (set .entry)) (now («row_file» .entry)) (now («byte_file» .entry)) (now (workspace .entry)) (now (answer .entry)) r (now (workspace .exit)) (now (answer .exit)) ⌝ }
 {
-    if answer.len() < 20 {
+    if answer.len() < ANSWER {
         return 17;
     }
     let checked = from_tabled(check(set, row_file, byte_file, workspace));

@@ -1,6 +1,8 @@
 // The rows of a set, keyword by keyword.
 use crate::tree::append;
 use crate::tree::ask;
+use rules::CELLS;
+use rules::RECORD;
 use rules::Way;
 use sets::word_of;
 ghost use mathlib.Core.Path.{_≡_};
@@ -37,7 +39,7 @@ fn insert(ws: &mut [u16], set: &[u8], i: usize, way: Way, rows: usize) -> usize
         }
         k += 1;
     }
-    ws[6 * row + 4] = (i + 1) as u16;
+    ws[CELLS * row + 4] = (i + 1) as u16;
     count
 }
 
@@ -52,7 +54,7 @@ pub(crate) fn build(ws: &mut [u16], set: &[u8], way: Way) -> usize
     ws[3] = 0;
     ws[4] = 0;
     ws[5] = 0;
-    let keywords = set.len() / 18;
+    let keywords = set.len() / RECORD;
     let mut rows = 1;
     let mut i = 0;
     while i < keywords {

@@ -1,4 +1,5 @@
 // The six numbers of a row, by name.
+use rules::CELLS;
 ghost use mathlib.Core.Path.{_≡_};
 ghost use Prim.Native.Nat.{_+_, _*_, _<_, _≤_};
 ghost use lib.ListN.{length, getD};
@@ -15,7 +16,7 @@ fn cell(ws: &[u16], row: usize, k: usize) -> usize
     requires { ⌜ (6 * row + 6 ≤ length (now ws)) × (k < 6) ⌝ }
     ensures { λ r. ⌜ (r ≡ getD (now (ws .entry)) (6 * row + k) 0) × (r < 65536) ⌝ }
 {
-    wide(ws[6 * row + k])
+    wide(ws[CELLS * row + k])
 }
 
 // The byte that the row adds to its parent.
@@ -23,7 +24,7 @@ pub(crate) fn byte(ws: &[u16], row: usize) -> u16
     requires { ⌜ 6 * row + 6 ≤ length (now ws) ⌝ }
     ensures { λ r. ⌜ r ≡ getD (now (ws .entry)) (6 * row + 0) 0 ⌝ }
 {
-    ws[6 * row + 0]
+    ws[CELLS * row + 0]
 }
 
 // The lowest-numbered child; 0 where there is none.

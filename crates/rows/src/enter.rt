@@ -1,5 +1,8 @@
 // The tests that every job begins with.
+use rules::CELLS;
+use rules::ROWS;
 use rules::Refusal;
+use rules::TRACE;
 use rules::Way;
 use sets::Verified;
 use sets::count_rows;
@@ -23,13 +26,13 @@ pub fn enter(set: &[u8], way: Way, trace: usize, room: usize) -> Entered
         return Entered::Refused(fault);
     }
     let rows = count_rows(set, way);
-    if 961 < rows {
+    if ROWS < rows {
         return Entered::Refused(Refusal::TooManyRows);
     }
-    if 1048576 < trace {
+    if TRACE < trace {
         return Entered::Refused(Refusal::TraceTooLong);
     }
-    if room < 6 * rows {
+    if room < CELLS * rows {
         return Entered::Refused(Refusal::WorkspaceShort { rows: rows as u16 });
     }
     Entered::Rows(rows)

@@ -3,6 +3,7 @@ use crate::cells::dictionary;
 use crate::cells::failure;
 use crate::cells::key;
 use crate::tree::ask;
+use rules::CELLS;
 ghost use mathlib.Core.List.{List, []};
 ghost use Prim.Native.Nat.{ℕ, _+_, _*_};
 ghost use lib.ListN.{getD};
@@ -53,7 +54,7 @@ pub(crate) fn fill_row(ws: &mut [u16], parent: usize, c: u16) -> usize
     if key(ws, fail) == 0 {
         dict = dictionary(ws, fail);
     }
-    ws[6 * row + 3] = fail as u16;
-    ws[6 * row + 5] = dict as u16;
+    ws[CELLS * row + 3] = fail as u16;
+    ws[CELLS * row + 5] = dict as u16;
     row
 }

@@ -1,5 +1,7 @@
 // The failure and dictionary rows of all rows, level by level, never depth first.
 use crate::failures::fill_row;
+use rules::LONGEST;
+use rules::RECORD;
 use rules::Way;
 use sets::length_of;
 use sets::unit;
@@ -24,7 +26,7 @@ fn fill_level(ws: &mut [u16], set: &[u8], depth: usize, standing: Standing) -> S
     ensures { λ r. ⌜ Levelled (now (set .entry)) (depth + 1) r (now (ws .entry)) (now (ws .exit)) ⌝ }
 {
     let mut next = standing;
-    let count = set.len() / 18;
+    let count = set.len() / RECORD;
     let mut i = 0;
     while i < count {
         let n = length_of(set, i);
@@ -46,7 +48,7 @@ pub(crate) fn fill(ws: &mut [u16], set: &[u8])
 {
     let mut standing = Standing { rows: [0u16; 64] };
     let mut depth = 0;
-    while depth < 15 {
+    while depth < LONGEST {
         standing = fill_level(ws, set, depth, standing);
         depth += 1;
     }

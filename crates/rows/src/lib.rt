@@ -1,4 +1,4 @@
-// The rows of a set in a lent workspace: six numbers a row. Only this crate knows where a number lies.
+// The rows of a set in a lent workspace: six numbers a row. Only this crate's code knows where a number lies.
 pub mod cells; // cells.rt: one number of a row
 pub mod tree; // tree.rt: the child question, and one row more
 pub mod build; // build.rt: the rows of a set

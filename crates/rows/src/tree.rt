@@ -2,6 +2,7 @@
 use crate::cells::byte;
 use crate::cells::child;
 use crate::cells::sibling;
+use rules::CELLS;
 ghost use mathlib.Core.Path.{_≡_};
 ghost use mathlib.Core.List.{List, []};
 ghost use Prim.Native.Nat.{ℕ, _+_, _*_, _<_, _≤_};
@@ -49,11 +50,11 @@ pub(crate) fn append(ws: &mut [u16], rows: usize, parent: usize, last: usize, c:
 {
     let number = rows as u16;
     if last == 0 {
-        ws[6 * parent + 1] = number;
+        ws[CELLS * parent + 1] = number;
     } else {
-        ws[6 * last + 2] = number;
+        ws[CELLS * last + 2] = number;
     }
-    let at = 6 * rows;
+    let at = CELLS * rows;
     ws[at] = c;
     ws[at + 1] = 0;
     ws[at + 2] = 0;

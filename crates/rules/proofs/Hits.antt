@@ -7,7 +7,7 @@ use mathlib.Core.Path.{_≡_, refl, sym, _∙_, ap}
 use mathlib.Core.Logic.{_⊎_, inl, inr, _↔_}
 use mathlib.Core.List.{List, [], _∷_, _++_, append-assoc, append-nil, List·Memᴰ, List·Memᴰ·head, List·Memᴰ·tail, List·Memᴰ·not-nil, List·Memᴰ·append-cases, Memᴰ·cast, Memᴰ·append-left, Memᴰ·append-right, Memᴰ·map, Memᴰ·of-map}
 use lib.ListN.{length, getD, length-append, length-map}
-use Rattle.rules.specs.Limits.{longestWord}
+use Rattle.rules.specs.Limits.{longestWord, mostEnergy}
 use Rattle.rules.specs.Strings.{same, suffixes}
 use Rattle.rules.specs.Sets.{Keyword, keywordsThatAre}
 use Rattle.rules.specs.Hits.{Hit, endingAt, hitsAt, hitsAfter, hits, energy, pairs}
@@ -209,7 +209,7 @@ pub hits-few : {ks : List Keyword} → Sound ks → (t : List ℕ) → length (h
 unfolding hits
 hits-few sound t = hitsAfter-few sound [] t
 
-pub energy-most : (hs : List Hit) → ((h : Hit) → List·Memᴰ h hs → h .keyword .energy < 65536) → energy hs ≤ 65535 * length hs
+pub energy-most : (hs : List Hit) → ((h : Hit) → List·Memᴰ h hs → h .keyword .energy ≤ mostEnergy) → energy hs ≤ mostEnergy * length hs
 unfolding energy
 energy-most [] each = omega arith
 energy-most (h ∷ hs) each =

@@ -1,4 +1,4 @@
--- Document 01's fixed numbers. Each stands here and nowhere else.
+-- Document 01's fixed numbers, as the definitions have them. The code has its own (rules/src/lib.rt), and the proofs hold those to these.
 use Prim.Native.Nat.{ℕ}
 
 -- bytes of a keyword record, and of them the most for the keyword
@@ -7,6 +7,10 @@ recordSize = 18
 
 abbrev pub longestWord : ℕ
 longestWord = 15
+
+-- the most energy of a keyword
+abbrev pub mostEnergy : ℕ
+mostEnergy = 65535
 
 -- the most keywords of a set and rows of its workspace
 abbrev pub mostKeywords : ℕ

@@ -9,8 +9,22 @@ pub const ROWS: usize = 961;
 
 pub const TRACE: usize = 1048576;
 
-// The bytes of a keyword's record.
+// The bytes of a keyword's record, the numbers of a row in a workspace, and of a workspace that is enough for every set.
 pub const RECORD: usize = 18;
+
+pub const CELLS: usize = 6;
+
+pub const WORKSPACE: usize = 5766;
+
+// The bytes of a row's record in a row file, the numbers of a byte's record in a byte file, and the bytes of that file.
+pub const ROW: usize = 18;
+
+pub const DEPTHS: usize = 16;
+
+pub const BYTES: usize = 4096;
+
+// The bytes of an answer.
+pub const ANSWER: usize = 20;
 
 // The way a keyword is read: from its first byte onwards, or from its last byte backwards.
 pub enum Way {
@@ -18,7 +32,7 @@ pub enum Way {
     Backward,
 }
 
-// Why a call is refused. `numberOf` and `placeOf` in specs/Answers.antt give document 01's number and place of each.
+// Why a call is refused. `numberAndPlace` in specs/Answers.antt gives document 01's number and place of each.
 pub enum Refusal {
     SetEmpty,
     SetSize,

@@ -2,6 +2,7 @@
 use forward::scan;
 use host::answer::Answer;
 use host::answer::from_scanned;
+use rules::WORKSPACE;
 ghost use Prim.Native.Nat.{_≤_};
 ghost use lib.ListN.{length};
 
@@ -63,6 +64,7 @@ fn print(found: Answer, hits: &[u32]) {
     print_hits(hits, found.count as usize);
 }
 
+// The two files, and what the scan of them found.
 fn main() {
     let mut set = [0u8; ROOM];
     let mut text = [0u8; ROOM];
@@ -76,7 +78,7 @@ fn main() {
         io::write_all(1, b"input\n");
         return;
     }
-    let mut workspace = [0u16; 5766];
+    let mut workspace = [0u16; WORKSPACE];
     let mut hits = [0u32; 8192];
     let found = scan(
         &set[..set_bytes],

@@ -1,4 +1,7 @@
 // A keyword set's bytes: the tests 1 to 6, one keyword at a time, and how many rows it has.
+use rules::KEYWORDS;
+use rules::LONGEST;
+use rules::RECORD;
 use rules::Refusal;
 use rules::Way;
 ghost use mathlib.Core.Path.{_≡_};
@@ -34,7 +37,7 @@ pub fn length_of(set: &[u8], i: usize) -> usize
     requires { ⌜ 18 * i + 18 ≤ length (now set) ⌝ }
     ensures { λ r. ⌜ (r ≡ getD (now (set .entry)) (18 * i) 0) × (r < 256) ⌝ }
 {
-    wide(set[18 * i])
+    wide(set[RECORD * i])
 }
 
 // Byte k of keyword i, whose length is n, as it is read.
@@ -43,8 +46,8 @@ pub fn unit(set: &[u8], i: usize, n: usize, k: usize, way: Way) -> u8
     ensures { λ r. ⌜ r ≡ getD (readAt (wayOf way) (now (set .entry)) i) k 0 ⌝ }
 {
     match way {
-        Way::Forward => set[18 * i + 1 + k],
-        Way::Backward => set[18 * i + n - k],
+        Way::Forward => set[RECORD * i + 1 + k],
+        Way::Backward => set[RECORD * i + n - k],
     }
 }
 
@@ -104,7 +107,7 @@ fn unpadded(set: &[u8], i: usize, n: usize) -> bool
 {
     let mut k = n + 1;
     while k < 16 {
-        if set[18 * i + k] != 0 {
+        if set[RECORD * i + k] != 0 {
             return true;
         }
         k += 1;
@@ -122,7 +125,7 @@ fn verify_record(set: &[u8], i: usize) -> Verified
     if n == 0 {
         return Verified::Refused(Refusal::Length { record });
     }
-    if 15 < n {
+    if LONGEST < n {
         return Verified::Refused(Refusal::Length { record });
     }
     if unpadded(set, i, n) {
@@ -142,11 +145,11 @@ pub fn verify(set: &[u8]) -> Verified
     if size == 0 {
         return Verified::Refused(Refusal::SetEmpty);
     }
-    if size % 18 != 0 {
+    if size % RECORD != 0 {
         return Verified::Refused(Refusal::SetSize);
     }
-    let count = size / 18;
-    if 64 < count {
+    let count = size / RECORD;
+    if KEYWORDS < count {
         return Verified::Refused(Refusal::TooManyKeywords);
     }
     let mut i = 0;
@@ -182,7 +185,7 @@ pub fn count_rows(set: &[u8], way: Way) -> usize
     requires { ⌜ fileVerdict (now set) ≡ pass ⌝ }
     ensures { λ r. ⌜ r ≡ length (rowsOf (wayOf way) (keywords (now (set .entry)))) ⌝ }
 {
-    let count = set.len() / 18;
+    let count = set.len() / RECORD;
     let mut rows = 1;
     let mut i = 0;
     while i < count {
@@ -197,7 +200,7 @@ pub fn shortest_of(set: &[u8]) -> usize
     requires { ⌜ fileVerdict (now set) ≡ pass ⌝ }
     ensures { λ r. ⌜ r ≡ shortest (keywords (now (set .entry))) ⌝ }
 {
-    let count = set.len() / 18;
+    let count = set.len() / RECORD;
     let mut least = length_of(set, 0);
     let mut i = 1;
     while i < count {
@@ -216,7 +219,7 @@ pub fn word_of(set: &[u8], i: usize, way: Way) -> Word
     ensures { λ r. ⌜ Holds r (readAt (wayOf way) (now (set .entry)) i) ⌝ }
 {
     let len = length_of(set, i);
-    let mut units = [0u16; 15];
+    let mut units = [0u16; LONGEST];
     let mut k = 0;
     while k < len {
         units[k] = unit(set, i, len, k, way) as u16;
@@ -230,7 +233,7 @@ pub fn energy_of(set: &[u8], i: usize) -> u64
     requires { ⌜ 18 * i + 18 ≤ length (now set) ⌝ }
     ensures { λ r. ⌜ (r ≡ keywordAt (now (set .entry)) i .energy) × (r < 65536) ⌝ }
 {
-    let low = wide(set[18 * i + 16]);
-    let high = wide(set[18 * i + 17]);
+    let low = wide(set[RECORD * i + 16]);
+    let high = wide(set[RECORD * i + 17]);
     (low + 256 * high) as u64
 }

@@ -1,4 +1,7 @@
 // The far numbers of all bytes at all depths, as 256 records of sixteen numbers held by value.
+use rules::BYTES;
+use rules::DEPTHS;
+use rules::RECORD;
 use sets::length_of;
 ghost use mathlib.Core.Path.{_≡_};
 ghost use Prim.Native.Nat.{_+_, _<_, _≤_};
@@ -34,8 +37,8 @@ pub(crate) fn far_numbers(set: &[u8], m: usize) -> [[u8; 16]; 256]
     let mut far = [[m as u8; 16]; 256];
     let mut q = 0;
     while q < set.len() {
-        let i = q / 18;
-        let place = q % 18;
+        let i = q / RECORD;
+        let place = q % RECORD;
         let n = length_of(set, i);
         if 0 < place {
             if place <= n {
@@ -56,8 +59,8 @@ pub(crate) fn put_bytes(set: &[u8], m: usize, buffer: &mut [u8])
 {
     let far = far_numbers(set, m);
     let mut p = 0;
-    while p < 4096 {
-        buffer[p] = far[p / 16][p % 16];
+    while p < BYTES {
+        buffer[p] = far[p / DEPTHS][p % DEPTHS];
         p += 1;
     }
 }

@@ -3,6 +3,9 @@ use crate::fars::far_numbers;
 use crate::suffixes::first;
 use crate::suffixes::next;
 use crate::suffixes::record_of;
+use rules::BYTES;
+use rules::DEPTHS;
+use rules::ROW;
 use rules::Refusal;
 use sets::shortest_of;
 ghost use mathlib.Core.Path.{_≡_};
@@ -26,7 +29,7 @@ fn fault(file: &[u8], row: usize, largest: [u8; 18]) -> u16
     requires { ⌜ 18 * row + 18 ≤ length (now file) ⌝ }
     ensures { λ r. ⌜ r ≡ faultOf largest (take 18 (drop (18 * row) (now (file .entry)))) ⌝ }
 {
-    let from = 18 * row;
+    let from = ROW * row;
     let mut k = 0;
     while k < 16 {
         if file[from + k] != largest[k] {
@@ -82,12 +85,12 @@ fn judge_bytes(set: &[u8], m: usize, file: &[u8]) -> Judged
 {
     let far = far_numbers(set, m);
     let mut p = 0;
-    while p < 4096 {
+    while p < BYTES {
         let n = file[p];
         if n == 0 {
             return Judged::Refused(Refusal::FarNumber { place: p as u16 });
         }
-        if far[p / 16][p % 16] < n {
+        if far[p / DEPTHS][p % DEPTHS] < n {
             return Judged::Refused(Refusal::FarNumber { place: p as u16 });
         }
         p += 1;
@@ -100,7 +103,7 @@ pub fn judge(set: &[u8], rows: usize, row_file: &[u8], byte_file: &[u8]) -> Judg
     requires { ⌜ (fileVerdict (now set) ≡ pass) × (rows ≡ length (rowsOf backward (keywords (now set)))) ⌝ }
     ensures { λ r. ⌜ judgedVerdict r ≡ tableVerdict (keywords (now (set .entry))) (now («row_file» .entry)) (now («byte_file» .entry)) ⌝ }
 {
-    if row_file.len() != 18 * rows {
+    if row_file.len() != ROW * rows {
         return Judged::Refused(Refusal::RowFileSize { rows: rows as u16 });
     }
     let m = shortest_of(set);
@@ -108,7 +111,7 @@ pub fn judge(set: &[u8], rows: usize, row_file: &[u8], byte_file: &[u8]) -> Judg
     if let Judged::Refused(why) = named {
         return Judged::Refused(why);
     }
-    if byte_file.len() != 4096 {
+    if byte_file.len() != BYTES {
         return Judged::Refused(Refusal::ByteFileSize);
     }
     judge_bytes(set, m, byte_file)

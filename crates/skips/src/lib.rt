@@ -11,6 +11,8 @@ use crate::suffixes::put_rows;
 use rows::enter::Entered;
 use rows::enter::enter;
 use rows::lay;
+use rules::BYTES;
+use rules::ROW;
 use rules::Refusal;
 use rules::Tabled;
 use rules::Way;
@@ -46,10 +48,10 @@ pub fn make(
     match begun {
         Entered::Refused(fault) => Tabled::Refused(fault),
         Entered::Rows(rows) => {
-            if row_buffer.len() < 18 * rows {
+            if row_buffer.len() < ROW * rows {
                 return Tabled::Refused(Refusal::RowBufferShort { rows: rows as u16 });
             }
-            if byte_buffer.len() < 4096 {
+            if byte_buffer.len() < BYTES {
                 return Tabled::Refused(Refusal::ByteBufferShort);
             }
             let m = shortest_of(set);

@@ -1,4 +1,5 @@
 // inner and edge of a suffix, as document 01 words them: against every keyword at every distance. A suffix is the last z bytes of keyword i.
+use rules::RECORD;
 use sets::length_of;
 ghost use mathlib.Core.Path.{_≡_};
 ghost use Prim.Native.Nat.{_+_, _*_, _<_, _≤_};
@@ -40,7 +41,7 @@ fn holds_before(set: &[u8], i: usize, z: usize, k: usize, n: usize) -> bool
     if b < n + z {
         return false;
     }
-    alike(set, 18 * i + 1 + a - z, 18 * k + 1 + b - n - z, z)
+    alike(set, RECORD * i + 1 + a - z, RECORD * k + 1 + b - n - z, z)
 }
 
 // Whether some string made of the suffix and n further bytes ends with keyword k.
@@ -57,7 +58,7 @@ fn ends_within(set: &[u8], i: usize, z: usize, k: usize, n: usize) -> bool
     if z < front {
         return false;
     }
-    alike(set, 18 * i + 1 + a - front, 18 * k + 1, front)
+    alike(set, RECORD * i + 1 + a - front, RECORD * k + 1, front)
 }
 
 // Whether keyword k stops the search for a number of the suffix at n.
@@ -76,7 +77,7 @@ fn some_passes(set: &[u8], i: usize, z: usize, n: usize, which: Number) -> bool
     requires { ⌜ Suffix (now set) i z × (n < 16) ⌝ }
     ensures { λ r. ⌜ r ≡ somePasses which (keywords (now (set .entry))) (suffixAt (now (set .entry)) i z) n ⌝ }
 {
-    let count = set.len() / 18;
+    let count = set.len() / RECORD;
     let mut k = 0;
     while k < count {
         if passes(set, i, z, k, n, which) {

@@ -1,6 +1,8 @@
 // The backward rows in row order, each as a suffix of a keyword, and the record of each.
 use crate::numbers::Number;
 use crate::numbers::largest;
+use rules::RECORD;
+use rules::ROW;
 use rules::Way;
 use sets::length_of;
 use sets::most_shared;
@@ -55,7 +57,7 @@ pub(crate) fn record_of(set: &[u8], at: Place, m: usize) -> [u8; 18]
 {
     let i = at.keyword;
     let z = at.depth;
-    let from = 18 * i + 1 + length_of(set, i) - z;
+    let from = RECORD * i + 1 + length_of(set, i) - z;
     let mut numbers = [0u8; 18];
     numbers[0] = z as u8;
     let mut k = 0;
@@ -73,9 +75,9 @@ fn put_record(buffer: &mut [u8], row: usize, numbers: [u8; 18])
     requires { ⌜ 18 * row + 18 ≤ length (now buffer) ⌝ }
     ensures { λ _. ⌜ now (buffer .exit) ≡ putAt (now (buffer .entry)) (18 * row) numbers ⌝ }
 {
-    let from = 18 * row;
+    let from = ROW * row;
     let mut k = 0;
-    while k < 18 {
+    while k < ROW {
         buffer[from + k] = numbers[k];
         k += 1;
     }
