@@ -8,6 +8,13 @@
  * overlaps no other buffer of the call; the others may overlap each other. Nothing is kept after the call, and calls from several
  * threads at once are fine while no buffer that one of them writes is another's.
  *
+ * After a call. The first 20 bytes of the answer are written on every outcome but BEZOWIK_ANSWER_SHORT, refusals too, and no byte beyond
+ * them. Refusals 1 to 9 and 17 change no other buffer. After refusals 10 to 16 the workspace holds the set's backward rows and nothing else
+ * has changed. A call that is not refused leaves its rows, forward or backward, at the front of the workspace. What a buffer holds behind
+ * what was written stays.
+ *
+ * Stack: some 12 kB in bezowik_cost, for its own workspace, and less than 8 kB in the others. C99 or C++11.
+ *
  * Formats. A keyword set is records of 18 bytes: a length from 1 to 15, the keyword, zeros up to byte 15, and the energy in picojoules
  * in bytes 16 and 17, low byte first; 1 to 64 records, no two keywords the same. A trace is 0 to 1,048,576 bytes. Keywords are numbered
  * from 0 in file order. A workspace has six numbers for each row of the set, at most BEZOWIK_WORKSPACE. Hits are pairs: the end
@@ -54,22 +61,20 @@ enum bezowik_refusal {
 #define BEZOWIK_ROWS 961
 #define BEZOWIK_BYTES 4096
 
-/* The cost of a trace: the forward scan, for a caller that wants no list. Writes the first 20 bytes of the answer on every outcome
- * but BEZOWIK_ANSWER_SHORT, and no byte beyond. */
+/* The cost of a trace: the forward scan, for a caller that wants no list. It has a workspace of its own. */
 uint16_t bezowik_cost(const uint8_t *set, size_t set_bytes,
                       const uint8_t *trace, size_t trace_bytes,
                       uint8_t *answer, size_t answer_bytes);
 
-/* The forward scan. Refusals 1 to 9 and 17 change neither workspace nor hits. Else the workspace holds the set's forward rows at its front, and
- * hits the first pairs that fit; the rest of both is unchanged. */
+/* The forward scan: refusals 1 to 9 and 17. Else the workspace holds the set's forward rows, and hits the first pairs that fit. */
 uint16_t bezowik_forward(const uint8_t *set, size_t set_bytes,
                          const uint8_t *trace, size_t trace_bytes,
                          uint16_t *workspace, size_t workspace_numbers,
                          uint32_t *hits, size_t hit_numbers,
                          uint8_t *answer, size_t answer_bytes);
 
-/* The backward scan under a skip table, which is checked at each call. After refusals 10 to 14 the workspace holds the set's backward rows and
- * hits is unchanged. Its hits, count and energy are the forward scan's; its questions are those of its own run. */
+/* The backward scan under a skip table, which is checked at each call: refusals 1 to 14 and 17. Its hits, count and energy are the forward
+ * scan's; its questions are those of its own run. */
 uint16_t bezowik_backward(const uint8_t *set, size_t set_bytes,
                           const uint8_t *trace, size_t trace_bytes,
                           const uint8_t *row_file, size_t row_bytes,
@@ -78,15 +83,16 @@ uint16_t bezowik_backward(const uint8_t *set, size_t set_bytes,
                           uint32_t *hits, size_t hit_numbers,
                           uint8_t *answer, size_t answer_bytes);
 
-/* Making a skip table: the largest safe numbers at the front of two buffers, BEZOWIK_ROW bytes a row and BEZOWIK_BYTES bytes. The answer has the number of rows
- * in the place of the count. After refusals 15 and 16 the workspace holds the backward rows and no other buffer has changed. */
+/* Making a skip table: the largest safe numbers at the front of two buffers, BEZOWIK_ROW bytes a row and BEZOWIK_BYTES bytes. Refusals 1 to 7,
+ * 9 and 15 to 17. The answer has the number of rows in the place of the count. */
 uint16_t bezowik_make(const uint8_t *set, size_t set_bytes,
                       uint16_t *workspace, size_t workspace_numbers,
                       uint8_t *row_buffer, size_t row_bytes,
                       uint8_t *byte_buffer, size_t byte_bytes,
                       uint8_t *answer, size_t answer_bytes);
 
-/* The check of a skip table: accepted exactly when it is safe for the set. The answer has the number of rows in the place of the count. */
+/* The check of a skip table: accepted exactly when it is safe for the set. Refusals 1 to 7, 9 to 14 and 17. The answer has the number of rows in
+ * the place of the count. */
 uint16_t bezowik_check(const uint8_t *set, size_t set_bytes,
                        const uint8_t *row_file, size_t row_bytes,
                        const uint8_t *byte_file, size_t byte_bytes,
