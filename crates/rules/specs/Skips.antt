@@ -27,21 +27,21 @@ holdsBefore v n w = leb n (length w) && ends v (take (length w - n) w)
 unfoldable pub endsWithin : List ℕ → ℕ → List ℕ → Bool
 endsWithin v n w = leb (length w) n || ends (take (length w - n) w) v
 
--- the least n from 1 up such that some keyword has v with exactly n bytes after it
+-- some keyword has v with exactly n bytes after it; inner is the least such n from 1 up, capped
 abbrev pub innerTest : List Keyword → List ℕ → ℕ → Bool
 innerTest ks v n = any (λ (k : Keyword). holdsBefore v n (k .word)) ks
 
 unfoldable pub inner : List Keyword → List ℕ → ℕ
 inner ks v = least (shortest ks) (innerTest ks v)
 
--- the least n from 1 up such that some string made of v and n further bytes ends with a keyword
+-- some string made of v and n further bytes ends with a keyword; edge is the least such n from 1 up, capped
 abbrev pub edgeTest : List Keyword → List ℕ → ℕ → Bool
 edgeTest ks v n = any (λ (k : Keyword). endsWithin v n (k .word)) ks
 
 unfoldable pub edge : List Keyword → List ℕ → ℕ
 edge ks v = least (shortest ks) (edgeTest ks v)
 
--- the least n from 1 up such that some keyword has the byte a with exactly z + n bytes after it
+-- some keyword has the byte a with exactly z + n bytes after it; far is the least such n from 1 up, capped
 abbrev pub farTest : List Keyword → ℕ → ℕ → ℕ → Bool
 farTest ks a z n = any (λ (k : Keyword). holdsBefore (a ∷ []) (z + n) (k .word)) ks
 

@@ -9,8 +9,8 @@ ghost use Rattle.rules.specs.Sets.{keywords, keywordAt, shortest};
 ghost use Rattle.rules.specs.Skips.{holdsBefore, endsWithin};
 ghost use Rattle.skips.specs.Suffixes.{Suffix, Listed, suffixAt, testOf, somePasses, largestOf};
 
-// The two numbers of a suffix. inner: the least n such that some keyword has it with exactly n bytes after it. edge: the least n such
-// that some string made of it and n further bytes ends with a keyword.
+// The two numbers of a suffix, each capped at the shortest keyword's length. inner: the least n from 1 up such that some keyword has it with
+// exactly n bytes after it. edge: the least n from 1 up such that some string made of it and n further bytes ends with a keyword.
 pub(crate) enum Number {
     Inner,
     Edge,
