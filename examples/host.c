@@ -2,13 +2,13 @@
  *
  *     host SET.bin TRACE.bin
  *
- * Exit status 0, 1 for a refusal, 2 where a file cannot be read. */
+ * Prints at most the first 4,096 hits. Exit status 0; 1 for a refusal; 2 for bad usage, or where a file cannot be read. */
 #include "bezowik.h"
 
 #include <stdio.h>
 #include <stdlib.h>
 
-/* The bytes of a file in fresh memory, and how many there are; null where it cannot be read. */
+/* The bytes of a file in fresh memory, and how many there are; null where it cannot be read whole. */
 static uint8_t *load(const char *path, size_t *bytes)
 {
     FILE *file = fopen(path, "rb");
@@ -20,8 +20,13 @@ static uint8_t *load(const char *path, size_t *bytes)
         return NULL;
     if (fseek(file, 0, SEEK_END) == 0 && (size = ftell(file)) >= 0 && fseek(file, 0, SEEK_SET) == 0) {
         data = malloc((size_t)size + 1);
+        /* one byte more is asked for than there must be */
         if (data)
-            *bytes = fread(data, 1, (size_t)size, file);
+            *bytes = fread(data, 1, (size_t)size + 1, file);
+        if (ferror(file) || *bytes != (size_t)size) {
+            free(data);
+            data = NULL;
+        }
     }
     fclose(file);
     return data;

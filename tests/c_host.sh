@@ -15,6 +15,9 @@ if "$made/host" examples/bench/text.bin examples/bench/text.bin >"$made/refused"
     echo "c_host: a set of 7 bytes was not refused" && exit 1
 fi
 printf 'refusal 2 0\n' | diff "$made/refused" -
+status=0
+"$made/host" examples/bench/set.bin "$made/none" 2>/dev/null || status=$?
+[ "$status" = 2 ] || { echo "c_host: a trace that is not there ended with status $status" && exit 1; }
 if command -v valgrind >/dev/null; then
     valgrind --quiet --error-exitcode=9 --leak-check=full "$made/host" examples/bench/set.bin examples/bench/text.bin >/dev/null
     echo "C example: right, and valgrind finds nothing"
