@@ -2,13 +2,15 @@
 
 pub mod measure;
 pub mod random;
+pub mod sets;
 pub mod slow;
 pub mod tool;
 
-/// The bytes of an answer, the numbers of a workspace that is enough for every set, the bytes of a keyword's record and of a row's, and those of
-/// a byte file.
+/// The bytes of an answer, the most rows of a set, the numbers of a workspace that is enough for every set, the bytes of a keyword's record and of
+/// a row's, and those of a byte file.
 pub const ANSWER: usize = 20;
-pub const WORKSPACE: usize = 6 * 961;
+pub const ROWS: usize = 961;
+pub const WORKSPACE: usize = 6 * ROWS;
 pub const RECORD: usize = 18;
 pub const ROW: usize = 18;
 pub const BYTES: usize = 4096;
@@ -206,7 +208,7 @@ pub fn make_into(set: &[u8], workspace: &mut [u16], row_buffer: &mut [u8], byte_
 
 /// The table with the largest safe numbers, or the refusal of the set.
 pub fn make(set: &[u8]) -> Result<Table, Answer> {
-    let mut table = Table { rows: vec![0; ROW * 961], bytes: vec![0; BYTES] };
+    let mut table = Table { rows: vec![0; ROW * ROWS], bytes: vec![0; BYTES] };
     let mut bytes = [0; ANSWER];
     make_into(set, &mut vec![0; WORKSPACE], &mut table.rows, &mut table.bytes, &mut bytes);
     let made = Answer::from_bytes(&bytes);

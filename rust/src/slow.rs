@@ -1,22 +1,7 @@
 //! The slow count: each job as document 01 words it, with neither failures nor skips to be quick by. What the library answers is compared with it.
 
-use crate::{Answer, Table, BYTES, RECORD, ROW};
-
-/// A keyword as its record states it.
-#[derive(Clone, Debug, PartialEq, Eq)]
-pub struct Keyword {
-    pub word: Vec<u8>,
-    pub energy: u64,
-}
-
-/// A keyword's record.
-pub fn record(word: &[u8], energy: u16) -> Vec<u8> {
-    let mut bytes = vec![word.len() as u8];
-    bytes.extend_from_slice(word);
-    bytes.resize(16, 0);
-    bytes.extend_from_slice(&energy.to_le_bytes());
-    bytes
-}
+use crate::sets::Keyword;
+use crate::{Answer, Table, BYTES, RECORD, ROW, ROWS};
 
 /// The way a keyword is read.
 #[derive(Clone, Copy, Debug, PartialEq, Eq)]
@@ -30,7 +15,7 @@ pub fn keywords(set: &[u8], way: Way) -> Result<Vec<Keyword>, Answer> {
     if set.is_empty() {
         return Err(Answer::refused(1, 0));
     }
-    if set.len() % RECORD != 0 {
+    if !set.len().is_multiple_of(RECORD) {
         return Err(Answer::refused(2, 0));
     }
     if set.len() / RECORD > 64 {
@@ -51,7 +36,7 @@ pub fn keywords(set: &[u8], way: Way) -> Result<Vec<Keyword>, Answer> {
         }
         keywords.push(Keyword { word, energy: u64::from(record[16]) + 256 * u64::from(record[17]) });
     }
-    if rows(&keywords, way).len() > 961 {
+    if rows(&keywords, way).len() > ROWS {
         return Err(Answer::refused(7, 0));
     }
     Ok(keywords)

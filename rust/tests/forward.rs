@@ -2,8 +2,10 @@
 
 mod common;
 
+use bezowik::measure::{set_file, words};
 use bezowik::random::Random;
-use bezowik::slow::{self, record};
+use bezowik::sets::record;
+use bezowik::slow;
 use bezowik::{Answer, WORKSPACE};
 use common::{bench_set, damaged_set, random_set, random_trace, BENCH_TRACE};
 
@@ -138,4 +140,55 @@ fn long_traces() {
         let trace = random_trace(&mut random, &set, 60_000);
         same(&set, &trace, WORKSPACE, 20_001, 20);
     }
+}
+
+/// The end and the keyword of every hit, as listed.
+fn hits(set: &[u8], trace: &[u8]) -> Vec<(u32, u32)> {
+    let mut list = vec![0; 2 * bezowik::cost(set, trace).count as usize];
+    bezowik::forward(set, trace, &mut vec![0; WORKSPACE], &mut list);
+    list.chunks(2).map(|pair| (pair[0], pair[1])).collect()
+}
+
+/// The hits of a trace scanned in parts of 40 to 100 bytes. Each later part begins so many bytes before the end of the part before, and its
+/// hits that end within them are left out.
+fn hits_in_parts(random: &mut Random, set: &[u8], trace: &[u8], shared: usize) -> Vec<(u32, u32)> {
+    let mut found = Vec::new();
+    let (mut from, mut left_out) = (0, 0);
+    loop {
+        let to = trace.len().min(from + 40 + random.below(61));
+        let kept = hits(set, &trace[from..to]).into_iter().filter(|hit| hit.0 > left_out);
+        found.extend(kept.map(|(end, keyword)| (from as u32 + end, keyword)));
+        if to == trace.len() {
+            return found;
+        }
+        (from, left_out) = (to - shared, shared as u32);
+    }
+}
+
+/// A set and a trace to be cut: keywords that overlap and nest, or long ones one behind another.
+fn set_and_trace(random: &mut Random) -> (Vec<u8>, Vec<u8>) {
+    if random.once_in(2) {
+        let set = random_set(random);
+        let trace = random_trace(random, &set, 1000);
+        return (set, trace);
+    }
+    let words = words(random, 12);
+    let trace = (0..80).flat_map(|_| words[random.below(words.len())].clone()).collect();
+    (set_file(&words).0, trace)
+}
+
+/// What the tool says at refusal 8: parts that share 14 bytes give exactly the hits of the whole trace. Where they share fewer, some are lost.
+#[test]
+fn parts_of_a_trace() {
+    let mut lost = 0;
+    for seed in 8000..8300 {
+        println!("seed {seed}");
+        let mut random = Random::new(seed);
+        let (set, trace) = set_and_trace(&mut random);
+        let whole = hits(&set, &trace);
+        assert_eq!(hits_in_parts(&mut random, &set, &trace, 14), whole);
+        lost += usize::from(hits_in_parts(&mut random, &set, &trace, 13) != whole);
+    }
+    println!("with 13 bytes shared, {lost} traces lost hits");
+    assert!(lost > 20);
 }

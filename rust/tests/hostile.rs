@@ -4,7 +4,8 @@
 mod common;
 
 use bezowik::random::Random;
-use bezowik::slow::{self, record, Keyword, Way};
+use bezowik::sets::{record, Keyword};
+use bezowik::slow::{self, Way};
 use bezowik::{c, Answer, Table, ANSWER, BYTES, RECORD, ROW, WORKSPACE};
 use common::{bench_set, damaged_set, random_trace, BENCH_TRACE};
 use std::collections::{BTreeMap, HashMap};
@@ -720,7 +721,7 @@ fn tiny_set(random: &mut Random) -> Vec<u8> {
             words.push(word);
         }
     }
-    words.iter().flat_map(|w| record(w, random.next() as u16)).collect()
+    words.iter().flat_map(|w| record(w, random.number() as u16)).collect()
 }
 
 /// The set, the set damaged, the set many times over, or any bytes.
@@ -839,7 +840,7 @@ fn about(random: &mut Random, right: usize) -> usize {
 
 /// A buffer that holds zeros or any numbers beforehand.
 fn lent_buffer<T: Element>(random: &mut Random, n: usize) -> Fenced<T> {
-    let salt = if random.once_in(4) { 0 } else { random.next() | 1 };
+    let salt = if random.once_in(4) { 0 } else { random.number() | 1 };
     Fenced::new(n, salt)
 }
 

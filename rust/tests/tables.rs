@@ -3,8 +3,9 @@
 mod common;
 
 use bezowik::random::Random;
-use bezowik::slow::{self, record, Way};
-use bezowik::{Answer, Table, BYTES, ROW, WORKSPACE};
+use bezowik::sets::record;
+use bezowik::slow::{self, Way};
+use bezowik::{Answer, Table, BYTES, ROW, ROWS, WORKSPACE};
 use common::{bench_set, damaged_set, random_set, random_trace, BENCH_TRACE};
 
 /// Buffers that hold something beforehand.
@@ -131,7 +132,7 @@ fn made_tables() {
         assert_eq!(table, slow::table(&keywords), "set {set:?}");
         assert_eq!(bezowik::check(&set, &table).number, 0, "set {set:?}");
         let damaged = damaged_set(&mut random, &set);
-        same_make(&damaged, WORKSPACE, ROW * 961, BYTES, 20);
+        same_make(&damaged, WORKSPACE, ROW * ROWS, BYTES, 20);
         same_check(&damaged, &table, WORKSPACE, 20);
     }
 }

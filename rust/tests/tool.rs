@@ -3,13 +3,23 @@
 mod common;
 
 use bezowik::random::Random;
-use bezowik::slow::{self, record, Way};
+use bezowik::sets::record;
+use bezowik::slow::{self, Way};
 use bezowik::{Table, BYTES, ROW};
 use common::{bench_set, random_set, random_trace, BENCH_TRACE};
+use std::ffi::OsString;
+use std::os::unix::fs::symlink;
 use std::path::PathBuf;
 use std::process::{Command, Stdio};
 
 const BENCH_CSV: &str = "\"LM\",40\n\"ALM\",55\n\"LMLA\",90\n";
+
+const BENCH_KEYWORDS: &str = "
+no  keyword  energy pJ
+ 0  \"LM\"            40
+ 1  \"ALM\"           55
+ 2  \"LMLA\"          90
+";
 
 const BENCH_PARTS: &str = "
 no  keyword  occurrences  energy pJ  share %
@@ -59,6 +69,14 @@ impl Folder {
         self.0.join(name).exists()
     }
 
+    /// The name and the bytes of every file of the folder, in the order of names.
+    fn listed(&self) -> Vec<(OsString, Option<Vec<u8>>)> {
+        let entries = std::fs::read_dir(&self.0).expect("the folder is there").map(|entry| entry.expect("an entry"));
+        let mut files: Vec<_> = entries.map(|entry| (entry.file_name(), std::fs::read(entry.path()).ok())).collect();
+        files.sort();
+        files
+    }
+
     /// The tool's exit status, output and messages. The arguments stand in one text, with spaces between.
     fn run(&self, arguments: &str) -> (i32, String, String) {
         let mut command = Command::new(env!("CARGO_BIN_EXE_bezowik"));
@@ -106,7 +124,7 @@ fn bench_example() {
     let folder = Folder::new("bench_example");
     folder.write("w.csv", BENCH_CSV.as_bytes());
     folder.write("t.bin", BENCH_TRACE);
-    assert_eq!(folder.done("set w.csv w.bin"), "w.bin: 3 keywords written\n");
+    assert_eq!(folder.done("set w.csv w.bin"), format!("w.bin: 3 keywords written\n{BENCH_KEYWORDS}"));
     assert_eq!(folder.read("w.bin"), bench_set());
     assert_eq!(folder.done("tables w.bin rows.bin bytes.bin"), "rows.bin: 8 rows written\nbytes.bin: 256 records of far numbers written\n");
     assert_eq!(Table { rows: folder.read("rows.bin"), bytes: folder.read("bytes.bin") }, bench_table());
@@ -118,6 +136,8 @@ fn bench_example() {
     assert_eq!(backward, format!("count 5 energy 280 questions 13\n{BENCH_PARTS}{hits}"));
     let two = "\nthe first 2 of 5 hits\nend  no  keyword\n  3   1  \"ALM\"\n  3   0  \"LM\"\n";
     assert_eq!(folder.done("scan w.bin t.bin --hits 2"), format!("count 5 energy 280 questions 9\n{BENCH_PARTS}{two}"));
+    let all = folder.done("scan w.bin t.bin --hits 99999999999999999999999");
+    assert_eq!(all, format!("count 5 energy 280 questions 9\n{BENCH_PARTS}{hits}"));
     assert!(folder.done("scan w.bin t.bin --hits 0").ends_with("\nthe first 0 of 5 hits\nend  no  keyword\n"));
 }
 
@@ -147,12 +167,29 @@ fn csv_forms() {
     ];
     for form in forms {
         folder.write("from.csv", form);
-        assert_eq!(folder.done("set from.csv set.bin"), "set.bin: 3 keywords written\n");
+        assert_eq!(folder.done("set from.csv set.bin"), format!("set.bin: 3 keywords written\n{BENCH_KEYWORDS}"));
         assert_eq!(folder.read("set.bin"), bench_set(), "{}", form.escape_ascii());
     }
     folder.write("from.csv", b"\"a,b\",0\n\"a\"\"b\",65535\n00,1\n\"#\\ \",2\n");
-    assert_eq!(folder.done("set from.csv set.bin"), "set.bin: 4 keywords written\n");
+    assert!(folder.done("set from.csv set.bin").starts_with("set.bin: 4 keywords written\n\nno "));
     assert_eq!(folder.read("set.bin"), [record(b"a,b", 0), record(b"a\"b", 65535), record(&[0], 1), record(b"#\\ ", 2)].concat());
+}
+
+/// `set` shows what it wrote: letters without quotes were taken for hex.
+#[test]
+fn quotes_decide() {
+    let folder = Folder::new("quotes_decide");
+    folder.write("from.csv", b"\"AD\",7\nAD,65535\n");
+    let expected = "set.bin: 2 keywords written
+
+no  keyword  energy pJ
+ 0  \"AD\"             7
+ 1  ad           65535
+";
+    assert_eq!(folder.done("set from.csv set.bin"), expected);
+    assert_eq!(folder.read("set.bin"), [record(b"AD", 7), record(&[0xad], 65535)].concat());
+    folder.write("from.csv", b"\"A\",1\n");
+    assert_eq!(folder.done("set from.csv set.bin"), "set.bin: 1 keyword written\n\nno  keyword  energy pJ\n 0  \"A\"              1\n");
 }
 
 #[test]
@@ -160,7 +197,8 @@ fn csv_limits() {
     let folder = Folder::new("csv_limits");
     let lines = |n: usize| (0..n).map(|i| format!("{i:02x}{}, {i}\n", "00".repeat(14))).collect::<String>();
     folder.write("from.csv", lines(64).as_bytes());
-    assert_eq!(folder.done("set from.csv 64.bin"), "64.bin: 64 keywords written\n");
+    let out = folder.done("set from.csv 64.bin");
+    assert!(out.starts_with("64.bin: 64 keywords written\n\nno ") && out.lines().count() == 67, "{out}");
     assert_eq!(folder.read("64.bin").len(), 64 * 18);
     assert_eq!(folder.bad_csv(lines(65).as_bytes()), "from.csv line 65: more than 64 keywords\n");
     assert_eq!(folder.bad_csv(lines(66).as_bytes()).lines().count(), 2);
@@ -261,8 +299,8 @@ fn refused_rows() {
     table.rows.copy_within(ROW..2 * ROW, 0);
     let expected = "rows.bin: refusal 11 place 0: row 0 is the empty suffix, but its record names suffix \"M\": \
 the file was made for another set, or a row slipped
-  inner is 2: the largest safe number is 1, and a larger one can lose hits
-  edge is 2: safe, and the largest safe number is 2
+  inner is 2; the largest safe number of this row is 1
+  edge is 2; the largest safe number of this row is 2
 ";
     assert_eq!(refused_table(&folder, &table), expected);
     // (l)
@@ -334,7 +372,8 @@ fn long_traces() {
     assert!(out.ends_with("\nthe first 3 of 15728535 hits\nend  no  keyword\n  1   0  00\n  2   1  00 00\n  2   0  00\n"), "{out}");
     folder.write("trace.bin", &vec![0; 1_048_577]);
     folder.write("short.bin", b"");
-    let told = "trace.bin: refusal 8 place 0: the trace has over 1,048,576 bytes: scan it in parts\n";
+    let told = "trace.bin: refusal 8 place 0: the trace has over 1,048,576 bytes: scan it in parts that each begin 14 bytes before the end \
+of the part before, and leave out a later part's hits that end within its first 14 bytes\n";
     for command in ["scan set.bin trace.bin", "compare set.bin trace.bin short.bin", "compare set.bin short.bin trace.bin"] {
         assert_eq!(folder.fails(1, command), told);
     }
@@ -397,6 +436,27 @@ no  keyword  in A  in B  B - A pJ
     assert_eq!(folder.done("compare w.bin v.bin x.bin"), expected);
 }
 
+/// A part that is not the whole is not called all of it.
+#[test]
+fn almost_all() {
+    let folder = Folder::new("almost_all");
+    folder.write("set.bin", &[record(b"A", 65535), record(b"B", 1)].concat());
+    folder.write("most.bin", &[vec![b'A'; 1000], vec![b'B']].concat());
+    folder.write("all.bin", &[b'A'; 1000]);
+    folder.write("b.bin", b"B");
+    folder.write("empty.bin", b"");
+    let shares = |trace: &str| {
+        let out = folder.done(&format!("scan set.bin {trace}"));
+        out.lines().skip(3).map(|line| line.split_whitespace().last().expect("a share").to_string()).collect::<Vec<_>>()
+    };
+    assert_eq!(shares("most.bin"), ["99.9", "0.0"]);
+    assert_eq!(shares("all.bin"), ["100.0", "0.0"]);
+    let verdict = |a: &str, b: &str| folder.done(&format!("compare set.bin {a} {b}")).lines().nth(2).expect("a verdict").to_string();
+    assert_eq!(verdict("all.bin", "b.bin"), "B draws 65534999 pJ less than A (99.9 % less)");
+    assert_eq!(verdict("empty.bin", "all.bin"), "A draws 65535000 pJ less than B (100.0 % less)");
+    assert_eq!(verdict("most.bin", "all.bin"), "B draws 1 pJ less than A (0.0 % less)");
+}
+
 #[test]
 fn random_scans() {
     let folder = Folder::new("random_scans");
@@ -437,6 +497,7 @@ fn usage() {
     let folder = Folder::bench("usage");
     let help = folder.done("--help");
     assert!(help.starts_with("bezowik counts measured opcode sequences") && help.contains("bezowik compare SET.bin A.bin B.bin"));
+    assert!(help.contains("The quotes decide: AD without quotes is the one byte ad."));
     for asked in ["-h", "scan --help", "set w.csv --help"] {
         assert_eq!(folder.done(asked), help);
     }
@@ -456,6 +517,12 @@ fn usage() {
         ("scan w.bin t.bin --hits some", "--hits needs a number: --hits N"),
         ("scan w.bin t.bin --hits 1 --hits 2", "--hits is given twice"),
         ("scan w.bin t.bin --backward rows.bin", "--backward needs two files: --backward ROWS.bin BYTES.bin"),
+        ("scan w.bin t.bin --backward --hits 3", "--backward needs two files: --backward ROWS.bin BYTES.bin"),
+        ("scan w.bin t.bin --backward rows.bin --hits 3", "--backward needs two files: --backward ROWS.bin BYTES.bin"),
+        ("scan w.bin t.bin --backward --backward rows.bin bytes.bin", "--backward needs two files: --backward ROWS.bin BYTES.bin"),
+        ("scan w.bin t.bin --hits --backward rows.bin bytes.bin", "--hits needs a number: --hits N"),
+        ("scan w.bin t.bin --hits 99999999999999999999999x", "--hits needs a number: --hits N"),
+        ("scan w.bin t.bin --hits -99999999999999999999999", "--hits needs a number: --hits N"),
         ("set w.bin w.bin", "w.bin and w.bin are the same file"),
         ("tables w.bin ./w.bin b.bin", "w.bin and ./w.bin are the same file"),
         ("tables w.bin r.bin r.bin", "r.bin and r.bin are the same file"),
@@ -465,6 +532,119 @@ fn usage() {
     }
     assert_eq!(folder.read("w.bin"), bench_set());
     assert!(!folder.holds("r.bin"));
+}
+
+/// Two names of one file, be it there or not, are told before anything is written.
+#[test]
+fn names_of_one_file() {
+    let folder = Folder::bench("names_of_one_file");
+    folder.write("w.csv", BENCH_CSV.as_bytes());
+    std::fs::hard_link(folder.0.join("w.bin"), folder.0.join("hard.bin")).expect("a hard link can be made");
+    for (to, link) in [("w.bin", "soft.bin"), ("n.bin", "dangling.bin"), ("loop.bin", "loop.bin")] {
+        symlink(to, folder.0.join(link)).expect("a link can be made");
+    }
+    let own = folder.0.file_name().and_then(|name| name.to_str()).expect("the folder has a name");
+    let (around, whole) = (format!("../{own}/n.bin"), folder.0.join("n.bin").display().to_string());
+    let before = folder.listed();
+    let pairs = [
+        ("w.bin", "hard.bin"),
+        ("w.bin", "soft.bin"),
+        ("n.bin", "n.bin"),
+        ("n.bin", "./n.bin"),
+        ("n.bin", &around),
+        ("./n.bin", &whole),
+        ("n.bin", "dangling.bin"),
+    ];
+    for (one, other) in pairs {
+        for (a, b) in [(one, other), (other, one)] {
+            let told = format!("{a} and {b} are the same file\n`bezowik --help` tells how the tool is used\n");
+            assert_eq!(folder.fails(2, &format!("tables {a} r.bin {b}")), told);
+            assert_eq!(folder.fails(2, &format!("tables {a} {b} r.bin")), told);
+            assert_eq!(folder.fails(2, &format!("tables rows.bin {a} {b}")), told);
+            assert_eq!(folder.fails(2, &format!("set {a} {b}")), told);
+        }
+    }
+    assert!(folder.fails(2, "tables w.bin loop.bin r.bin").starts_with("loop.bin: cannot be written: "));
+    assert_eq!(folder.listed(), before);
+    // one name in two folders is two files
+    std::fs::create_dir(folder.0.join("in")).expect("a folder can be made");
+    folder.done("tables w.bin n.bin in/n.bin");
+    assert_eq!(Table { rows: folder.read("n.bin"), bytes: folder.read("in/n.bin") }, bench_table());
+}
+
+/// Where a file cannot be written, no file has changed, and none is there that was not.
+#[test]
+fn no_half_result() {
+    let folder = Folder::bench("no_half_result");
+    folder.write("w.csv", BENCH_CSV.as_bytes());
+    folder.write("old.bin", &[7; 5000]);
+    folder.write("empty.bin", b"");
+    symlink("made.bin", folder.0.join("dangling.bin")).expect("a link can be made");
+    std::fs::create_dir(folder.0.join("in")).expect("a folder can be made");
+    let age = || std::fs::metadata(folder.0.join("old.bin")).and_then(|found| found.modified()).expect("the file is there");
+    let (before, old) = (folder.listed(), age());
+    folder.fails(2, "tables w.bin old.bin none/file");
+    assert_eq!(age(), old);
+    for good in ["old.bin", "empty.bin", "n.bin", "dangling.bin"] {
+        // the last can be opened and not written
+        for bad in ["none/file", "in", "/dev/full"] {
+            for files in [format!("{good} {bad}"), format!("{bad} {good}")] {
+                let told = folder.fails(2, &format!("tables w.bin {files}"));
+                assert!(told.starts_with(&format!("{bad}: cannot be written: ")) && told.lines().count() == 1, "{told}");
+                assert_eq!(folder.listed(), before, "{files}");
+            }
+        }
+    }
+    assert!(folder.fails(2, "set w.csv /dev/full").starts_with("/dev/full: cannot be written: "));
+    // a longer file is cut, and what a link points to is made
+    folder.done("tables w.bin old.bin dangling.bin");
+    assert_eq!(Table { rows: folder.read("old.bin"), bytes: folder.read("made.bin") }, bench_table());
+    folder.done("tables w.bin /dev/null b.bin");
+    assert_eq!(folder.read("b.bin"), bench_table().bytes);
+}
+
+/// A file without an end is no set, no table and no csv, and is told so at once.
+#[test]
+fn files_that_are_too_long() {
+    let folder = Folder::bench("files_that_are_too_long");
+    let told = |name: &str| format!("{name}: the file is longer than 16 MiB, and no set, table or csv is\n");
+    let commands = [
+        "set /dev/zero n.bin",
+        "tables /dev/zero n.bin b.bin",
+        "check /dev/zero rows.bin bytes.bin",
+        "check w.bin /dev/zero bytes.bin",
+        "check w.bin rows.bin /dev/zero",
+        "scan /dev/zero t.bin",
+        "scan w.bin t.bin --backward /dev/zero bytes.bin",
+        "scan w.bin t.bin --backward rows.bin /dev/zero",
+        "compare /dev/zero t.bin t.bin",
+    ];
+    for command in commands {
+        assert_eq!(folder.fails(2, command), told("/dev/zero"), "{command}");
+    }
+    assert!(!folder.holds("n.bin") && !folder.holds("b.bin"));
+    // a trace has its own limit, and a file of exactly 16 MiB is read
+    assert!(folder.fails(1, "scan w.bin /dev/zero").starts_with("/dev/zero: refusal 8 place 0: "));
+    folder.write("long.bin", &vec![0; 16 << 20]);
+    assert!(folder.fails(1, "scan long.bin t.bin").starts_with("long.bin: refusal 2 place 0: the set has 16777216 bytes, "));
+    folder.write("long.bin", &vec![0; (16 << 20) + 1]);
+    assert_eq!(folder.fails(2, "scan long.bin t.bin"), told("long.bin"));
+    // nor is it written over
+    assert_eq!(folder.fails(2, "tables w.bin n.bin long.bin"), told("long.bin"));
+    assert!(!folder.holds("n.bin") && folder.read("long.bin").len() == (16 << 20) + 1);
+}
+
+/// Without the static library the build says what makes it, and where it was looked for.
+#[test]
+fn build_without_the_library() {
+    let folder = Folder::new("build_without_the_library");
+    let mut cargo = Command::new(env!("CARGO"));
+    cargo.args(["check", "--offline", "--quiet", "--lib", "--target-dir"]).arg(folder.0.join("target"));
+    cargo.current_dir(env!("CARGO_MANIFEST_DIR")).env("BEZOWIK_LIB", &folder.0);
+    let output = cargo.output().expect("cargo runs");
+    let told = String::from_utf8_lossy(&output.stderr);
+    let expected = format!("no libhost.a in {}: run `rt staticlib host` first\n", folder.0.display());
+    assert!(!output.status.success() && told.contains(&expected), "{told}");
 }
 
 #[test]

@@ -3,7 +3,7 @@
 use super::files::{Input, Tables};
 use super::refusals::{accepted, Lent};
 use super::Failure;
-use crate::slow::Keyword;
+use crate::sets::Keyword;
 use crate::{Answer, RECORD, WORKSPACE};
 use std::io::{self, IsTerminal, Write};
 

@@ -1,7 +1,7 @@
 //! A keyword set from the lines of a csv.
 
 use super::text::shown;
-use crate::slow::record;
+use crate::sets::record;
 
 /// The most wrong lines that are told one by one.
 const TOLD: usize = 20;

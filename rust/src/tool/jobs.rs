@@ -1,11 +1,12 @@
 //! The five commands.
 
 use super::counts::{self, keywords, Found};
-use super::files::{distinct, read, read_tables, read_trace, write, Input};
+use super::files::{distinct, read, read_tables, read_trace, Input};
+use super::outputs::write;
 use super::refusals::{accepted, Lent};
 use super::text::{columns, percent, shown};
 use super::{csv, Done, Failure};
-use crate::slow::Keyword;
+use crate::sets::Keyword;
 use crate::{RECORD, ROW};
 use std::cmp::{Ordering, Reverse};
 use std::io::Write;
@@ -17,9 +18,19 @@ pub(crate) fn set(from: &Path, to: &Path, out: &mut dyn Write) -> Done {
     let bytes = csv::set(&from.display().to_string(), &read(from)?.bytes).map_err(Failure::Refused)?;
     let made = Input { name: to.to_path_buf(), bytes };
     accepted(crate::cost(&made.bytes, &[]), &Lent { set: &made, trace: None, tables: None })?;
-    write(to, &made.bytes)?;
+    write(&[(to, &made.bytes)])?;
     writeln!(out, "{}: {} written", to.display(), counted(made.bytes.len() / RECORD, "keyword"))?;
+    write!(out, "\n{}", listed(&keywords(&made.bytes)))?;
     Ok(())
+}
+
+/// The table of a set: each keyword with its energy.
+fn listed(keywords: &[Keyword]) -> String {
+    let mut lines = vec![["no", "keyword", "energy pJ"].map(String::from)];
+    for (i, keyword) in keywords.iter().enumerate() {
+        lines.push([i.to_string(), shown(&keyword.word), keyword.energy.to_string()]);
+    }
+    columns(&lines, 1)
 }
 
 /// `tables`: the skip tables with the largest safe numbers.
@@ -30,8 +41,7 @@ pub(crate) fn tables(set: &Path, rows: &Path, bytes: &Path, out: &mut dyn Write)
         Ok(table) => table,
         Err(refusal) => return accepted(refusal, &Lent { set: &set, trace: None, tables: None }).map(|_| ()),
     };
-    write(rows, &table.rows)?;
-    write(bytes, &table.bytes)?;
+    write(&[(rows, &table.rows), (bytes, &table.bytes)])?;
     writeln!(out, "{}: {} written", rows.display(), counted(table.rows.len() / ROW, "row"))?;
     writeln!(out, "{}: 256 records of far numbers written", bytes.display())?;
     Ok(())

@@ -4,6 +4,7 @@ mod counts;
 mod csv;
 mod files;
 mod jobs;
+mod outputs;
 mod refusals;
 mod text;
 
@@ -18,7 +19,8 @@ bezowik counts measured opcode sequences in a trace, and the energy that they dr
 
   bezowik set FROM.csv SET.bin
       Makes a keyword set. A line of FROM.csv is a sequence, a comma and an energy in picojoules (0 to 65535). The sequence is
-      text in double quotes (\"LM\") or hex bytes (4c 4d, 4c4d or 0x4c4d). Blank lines and lines that begin with # are skipped.
+      text in double quotes (\"LM\") or hex bytes (4c 4d, 4c4d or 0x4c4d). The quotes decide: AD without quotes is the one byte ad.
+      Blank lines and lines that begin with # are skipped. Prints what it wrote.
   bezowik tables SET.bin ROWS.bin BYTES.bin
       Makes the skip tables of a set, with the largest safe numbers.
   bezowik check SET.bin ROWS.bin BYTES.bin
@@ -48,7 +50,7 @@ pub(crate) enum Failure {
 
 pub(crate) type Done = Result<(), Failure>;
 
-/// What a failed write to the output is: the files that the tool writes are written by `files::write`.
+/// What a failed write to the output is: the files that the tool writes are written by `outputs::write`.
 impl From<io::Error> for Failure {
     /// The failure that an error of the output is.
     fn from(error: io::Error) -> Failure {
@@ -139,18 +141,25 @@ struct ScanOptions {
     rest: Vec<OsString>,
 }
 
+/// A number of hits. One too large to be held is as good as any large one: every hit is listed.
+fn hit_number(text: &str) -> Option<usize> {
+    let digits = !text.is_empty() && text.bytes().all(|b| b.is_ascii_digit());
+    digits.then(|| text.parse().unwrap_or(usize::MAX))
+}
+
 /// The options of `scan`, wherever they stand, and the arguments that are left.
 fn scan_options(arguments: &[OsString]) -> Result<ScanOptions, Failure> {
     let mut options = ScanOptions::default();
     let mut left = arguments.iter();
     while let Some(argument) = left.next() {
         if argument == "--backward" && options.backward.is_none() {
-            let (Some(rows), Some(bytes)) = (left.next(), left.next()) else {
+            let mut file = || left.next().filter(|name| !is_option(name));
+            let (Some(rows), Some(bytes)) = (file(), file()) else {
                 return Err(misuse("--backward needs two files: --backward ROWS.bin BYTES.bin"));
             };
             options.backward = Some([rows.into(), bytes.into()]);
         } else if argument == "--hits" && options.hits.is_none() {
-            let number = left.next().and_then(|n| n.to_str()).and_then(|n| n.parse().ok());
+            let number = left.next().and_then(|n| n.to_str()).and_then(hit_number);
             options.hits = Some(number.ok_or_else(|| misuse("--hits needs a number: --hits N"))?);
         } else if argument == "--backward" || argument == "--hits" {
             return Err(misuse(&format!("{} is given twice", argument.display())));

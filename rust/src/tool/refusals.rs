@@ -3,8 +3,12 @@
 use super::files::{Input, Tables};
 use super::text::{hex, shown, suffix};
 use super::Failure;
-use crate::{Answer, Table, BYTES, RECORD, ROW};
+use crate::{Answer, Table, BYTES, RECORD, ROW, ROWS};
 use std::path::Path;
+
+/// Refusal 8. The longest keyword has 15 bytes, so that one which a cut divides stands whole in the part behind the cut.
+const TOO_LONG: &str = "the trace has over 1,048,576 bytes: scan it in parts that each begin 14 bytes before the end of the part before, \
+and leave out a later part's hits that end within its first 14 bytes";
 
 /// What the library was lent in the call that it answered.
 pub(crate) struct Lent<'a> {
@@ -27,7 +31,7 @@ fn explained<'a>(answer: Answer, lent: &Lent<'a>) -> (&'a Path, String) {
     let place = answer.place as usize;
     match (answer.number, lent.trace, lent.tables) {
         (1..=7, _, _) => (&lent.set.name, of_set(answer.number, place, &lent.set.bytes)),
-        (8, Some(trace), _) => (&trace.name, "the trace has over 1,048,576 bytes: scan it in parts".to_string()),
+        (8, Some(trace), _) => (&trace.name, TOO_LONG.to_string()),
         (10..=12, _, Some(tables)) => (&tables.row_name, of_rows(answer.number, place, &lent.set.bytes, &tables.table)),
         (13..=14, _, Some(tables)) => (&tables.byte_name, of_bytes(answer.number, place, &lent.set.bytes, &tables.table)),
         // the tool lends room for every set, so the library has no cause for any other
@@ -47,7 +51,7 @@ fn of_set(number: u16, place: usize, set: &[u8]) -> String {
             let earlier = (0..place).find(|&i| word(set, i) == word(set, place)).unwrap_or(0);
             format!("record {place} has the same bytes as record {earlier}, {}: take one of the two out", shown(word(set, place)))
         }
-        _ => "the set has over 961 rows".to_string(),
+        _ => format!("the set has over {ROWS} rows"),
     }
 }
 
@@ -72,11 +76,14 @@ fn of_rows(number: u16, place: usize, set: &[u8], lent: &Table) -> String {
     let found = &lent.rows[ROW * place..ROW * (place + 1)];
     let most = &largest.rows[ROW * place..ROW * (place + 1)];
     let row = suffix(&most[1..1 + most[0] as usize]);
-    let sentence = match number {
-        11 => format!("row {place} is {row}, but its record names {}: the file was made for another set, or a row slipped", named(found)),
-        _ => format!("a number of row {place}, {row}, is not safe"),
-    };
-    format!("{sentence}\n  {}\n  {}", judged("inner", found[16], most[16]), judged("edge", found[17], most[17]))
+    let both = |told: fn(&str, u8, u8) -> String| format!("{}\n  {}", told("inner", found[16], most[16]), told("edge", found[17], most[17]));
+    match number {
+        11 => {
+            let sentence = format!("row {place} is {row}, but its record names {}", named(found));
+            format!("{sentence}: the file was made for another set, or a row slipped\n  {}", both(beside))
+        }
+        _ => format!("a number of row {place}, {row}, is not safe\n  {}", both(judged)),
+    }
 }
 
 /// The refusals 13 and 14, beside the table with the largest numbers.
@@ -94,7 +101,12 @@ fn largest(set: &[u8]) -> Table {
     crate::make(set).expect("a refusal of a table comes after the tests of the set")
 }
 
-/// A number of a table beside the largest safe one.
+/// A number of a record that does not name its row, beside the row's largest safe one. It is not judged: it was not made for this row.
+fn beside(name: &str, found: u8, most: u8) -> String {
+    format!("{name} is {found}; the largest safe number of this row is {most}")
+}
+
+/// A number of a table beside the largest safe one, and whether it is safe.
 fn judged(name: &str, found: u8, most: u8) -> String {
     match found {
         0 => format!("{name} is 0: the largest safe number is {most}, and 0 never moves on"),

@@ -22,12 +22,13 @@ pub(crate) fn suffix(word: &[u8]) -> String {
     }
 }
 
-/// A part of a whole in percent, rounded to one decimal; no number where the whole is 0.
+/// A part of a whole in percent, rounded to one decimal, but 100.0 for the whole alone; no number where the whole is 0.
 pub(crate) fn percent(part: u64, whole: u64) -> String {
     if whole == 0 {
         return "-".to_string();
     }
-    let tenths = (u128::from(part) * 2000 + u128::from(whole)) / (2 * u128::from(whole));
+    let rounded = (u128::from(part) * 2000 + u128::from(whole)) / (2 * u128::from(whole));
+    let tenths = if part < whole { rounded.min(999) } else { rounded };
     format!("{}.{}", tenths / 10, tenths % 10)
 }
 

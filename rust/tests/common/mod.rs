@@ -2,7 +2,7 @@
 #![allow(dead_code)]
 
 use bezowik::random::Random;
-use bezowik::slow::record;
+use bezowik::sets::record;
 use bezowik::RECORD;
 
 /// Document 01's set W and trace T.
@@ -24,7 +24,7 @@ pub fn random_set(random: &mut Random) -> Vec<u8> {
             words.push(word);
         }
     }
-    words.iter().flat_map(|w| record(w, random.next() as u16)).collect()
+    words.iter().flat_map(|w| record(w, random.number() as u16)).collect()
 }
 
 /// A trace of at most n bytes, of pieces of keywords and of other bytes.
@@ -54,11 +54,11 @@ pub fn damaged_set(random: &mut Random, set: &[u8]) -> Vec<u8> {
         let at = random.below(damaged.len());
         match random.below(6) {
             0 => damaged.truncate(at),
-            1 => damaged[at] = random.next() as u8,
+            1 => damaged[at] = random.number() as u8,
             2 => damaged[at / RECORD * RECORD] = [0, 16, 255, 15, 1][random.below(5)],
             3 => damaged.extend_from_within(at / RECORD * RECORD..),
             4 => damaged[at] ^= 1 << random.below(8),
-            _ => damaged.push(random.next() as u8),
+            _ => damaged.push(random.number() as u8),
         }
     }
     damaged

@@ -1,0 +1,17 @@
+//! A keyword, and its record in a set.
+
+/// A keyword as its record states it.
+#[derive(Clone, Debug, PartialEq, Eq)]
+pub struct Keyword {
+    pub word: Vec<u8>,
+    pub energy: u64,
+}
+
+/// A keyword's record.
+pub fn record(word: &[u8], energy: u16) -> Vec<u8> {
+    let mut bytes = vec![word.len() as u8];
+    bytes.extend_from_slice(word);
+    bytes.resize(16, 0);
+    bytes.extend_from_slice(&energy.to_le_bytes());
+    bytes
+}
