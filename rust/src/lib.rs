@@ -32,16 +32,8 @@ impl Answer {
 
     /// The answer that stands in the first twenty bytes of a buffer.
     pub fn from_bytes(bytes: &[u8]) -> Answer {
-        let low = |from: usize, width: usize| {
-            bytes[from..from + width].iter().rev().fold(0u64, |sum, &b| sum << 8 | u64::from(b))
-        };
-        Answer {
-            number: low(0, 2) as u16,
-            place: low(2, 2) as u16,
-            count: low(4, 4) as u32,
-            questions: low(8, 4) as u32,
-            energy: low(12, 8),
-        }
+        let low = |from: usize, width: usize| bytes[from..from + width].iter().rev().fold(0u64, |sum, &b| sum << 8 | u64::from(b));
+        Answer { number: low(0, 2) as u16, place: low(2, 2) as u16, count: low(4, 4) as u32, questions: low(8, 4) as u32, energy: low(12, 8) }
     }
 
     /// The twenty bytes of the answer.

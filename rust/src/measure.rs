@@ -22,7 +22,10 @@ struct Kind {
 
 const KINDS: [Kind; 3] = [
     Kind { name: "many hits", trace: |random, words, n| repeated(n, || words[random.below(words.len())].clone()) },
-    Kind { name: "few hits", trace: |random, words, n| repeated(n, || if random.once_in(40) { words[random.below(words.len())].clone() } else { random.bytes(8, 60) }) },
+    Kind {
+        name: "few hits",
+        trace: |random, words, n| repeated(n, || if random.once_in(40) { words[random.below(words.len())].clone() } else { random.bytes(8, 60) }),
+    },
     Kind { name: "no hit", trace: |random, _, n| (0..n).map(|_| 200 + random.below(50) as u8).collect() },
 ];
 

@@ -213,10 +213,7 @@ fn named(v: &[u8]) -> Vec<u8> {
 
 /// The table with the largest numbers.
 pub fn table(keywords: &[Keyword]) -> Table {
-    let rows = rows(keywords, Way::Backward)
-        .iter()
-        .flat_map(|v| [named(v), vec![inner(keywords, v), edge(keywords, v)]].concat())
-        .collect();
+    let rows = rows(keywords, Way::Backward).iter().flat_map(|v| [named(v), vec![inner(keywords, v), edge(keywords, v)]].concat()).collect();
     let bytes = (0..BYTES).map(|p| far(keywords, (p / 16) as u8, p % 16)).collect();
     Table { rows, bytes }
 }

@@ -71,7 +71,10 @@ fn limits() {
     let more: Vec<u8> = (0..65).flat_map(|i| record(&[i, 1], 1)).collect();
     assert_eq!(bezowik::cost(&more, b""), Answer::refused(3, 0));
     let longest = vec![65; 1_048_576];
-    assert_eq!(bezowik::cost(&record(b"A", 65_535), &longest), Answer { count: 1_048_576, questions: 2 * 1_048_576 - 1, energy: 65_535 * 1_048_576, ..Answer::default() });
+    assert_eq!(
+        bezowik::cost(&record(b"A", 65_535), &longest),
+        Answer { count: 1_048_576, questions: 2 * 1_048_576 - 1, energy: 65_535 * 1_048_576, ..Answer::default() }
+    );
     assert_eq!(bezowik::cost(&record(b"A", 1), &vec![65; 1_048_577]), Answer::refused(8, 0));
     // fifteen keywords at every end: the most hits
     let nested: Vec<u8> = (1..16).flat_map(|n| record(&vec![65; n], 65_535)).collect();

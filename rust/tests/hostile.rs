@@ -248,9 +248,7 @@ fn with_nulls(job: Job, l: &mut Lent) -> u16 {
         match job {
             Job::Cost => c::bezowik_cost(set, set_n, trace, trace_n, an, an_n),
             Job::Forward => c::bezowik_forward(set, set_n, trace, trace_n, ws, ws_n, hs, hs_n, an, an_n),
-            Job::Backward => {
-                c::bezowik_backward(set, set_n, trace, trace_n, rows, rows_n, bytes, bytes_n, ws, ws_n, hs, hs_n, an, an_n)
-            }
+            Job::Backward => c::bezowik_backward(set, set_n, trace, trace_n, rows, rows_n, bytes, bytes_n, ws, ws_n, hs, hs_n, an, an_n),
             Job::Make => c::bezowik_make(set, set_n, ws, ws_n, rb, rb_n, bb, bb_n, an, an_n),
             Job::Check => c::bezowik_check(set, set_n, rows, rows_n, bytes, bytes_n, ws, ws_n, an, an_n),
         }
@@ -276,7 +274,13 @@ impl Tally {
     }
 
     fn tell(&self, test: &str) {
-        println!("{test}: {} calls in {:.2} s, {} hits; (job, result): calls {:?}", self.calls(), self.start.elapsed().as_secs_f64(), self.hits, self.met);
+        println!(
+            "{test}: {} calls in {:.2} s, {} hits; (job, result): calls {:?}",
+            self.calls(),
+            self.start.elapsed().as_secs_f64(),
+            self.hits,
+            self.met
+        );
     }
 }
 

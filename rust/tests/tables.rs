@@ -179,8 +179,7 @@ fn the_slipped_row() {
             slipped.rows[ROW * row + 16] = table.rows[ROW * (row - 1) + 16];
             slipped.rows[ROW * row + 17] = table.rows[ROW * (row - 1) + 17];
         }
-        let first = (0..table.rows.len() / ROW)
-            .find(|row| (16..18).any(|k| slipped.rows[ROW * row + k] > table.rows[ROW * row + k]));
+        let first = (0..table.rows.len() / ROW).find(|row| (16..18).any(|k| slipped.rows[ROW * row + k] > table.rows[ROW * row + k]));
         let checked = bezowik::check(&set, &slipped);
         match first {
             Some(row) => {

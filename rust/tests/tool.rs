@@ -262,10 +262,7 @@ fn refused_sets() {
         (vec![0; 65 * 18], "refusal 3 place 0: the set has 65 records, more than 64: split it"),
         (long, "refusal 4 place 1: record 1 has the length 16, and a keyword has 1 to 15 bytes"),
         (padded, "refusal 5 place 1: record 1, keyword \"ALM\": the bytes behind the keyword, up to byte 15, must be zero"),
-        (
-            [bench_set(), record(b"ALM", 7)].concat(),
-            "refusal 6 place 3: record 3 has the same bytes as record 1, \"ALM\": take one of the two out",
-        ),
+        ([bench_set(), record(b"ALM", 7)].concat(), "refusal 6 place 3: record 3 has the same bytes as record 1, \"ALM\": take one of the two out"),
     ];
     for (set, sentence) in cases {
         folder.write("bad.bin", &set);

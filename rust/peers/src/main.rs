@@ -6,9 +6,7 @@ use bezowik::measure::{backward_table, forward_table, Peer, Scan};
 fn ready(words: &[Vec<u8>], energies: &[u64], dfa: bool) -> Scan {
     let automaton = AhoCorasickBuilder::new().dfa(dfa).build(words);
     let energies = energies.to_vec();
-    Box::new(move |trace| {
-        automaton.find_overlapping_iter(trace).fold((0, 0), |(count, energy), hit| (count + 1, energy + energies[hit.pattern()]))
-    })
+    Box::new(move |trace| automaton.find_overlapping_iter(trace).fold((0, 0), |(count, energy), hit| (count + 1, energy + energies[hit.pattern()])))
 }
 
 fn main() {
