@@ -43,13 +43,14 @@ module _ {s : List ℕ} {end : ℕ} {keys : List ℕ} {met : ℕ} {done : List H
 
   -- keyword `left` next
   module _ {left : ℕ} {next : Tally} {hs′ : List ℕ} (closed : Closed s end keys met (suc left) done old next hs′) (more : left < met) where
-    pub closed-hit : Hitting s end (getD keys left 0) (done ++ partOf s end keys met (suc left)) old next hs′
+    -- any keyword met may be listed
+    pub closed-hit : (j : ℕ) → j < met → Hitting s end (getD keys j 0) (done ++ partOf s end keys met (suc left)) old next hs′
     unfolding partOf
-    closed-hit =
+    closed-hit j among =
         let here = drop (suc left) (take met keys) in
         record {
-          whole = omega (arith, file-length (file-passed s (closing .passed)), closing .known left more);
-          small = omega (arith, closing .sound .few, closing .known left more);
+          whole = omega (arith, file-length (file-passed s (closing .passed)), closing .known j among);
+          small = omega (arith, closing .sound .few, closing .known j among);
           near = closing .near;
           few =
               omega (
@@ -65,6 +66,7 @@ module _ {s : List ℕ} {end : ℕ} {keys : List ℕ} {met : ℕ} {done : List H
           tallied = closed .tallied;
         }
 
+    -- and keyword `left` is the one to list
     joined : done ++ partOf s end keys met left ≡ done ++ partOf s end keys met (suc left) ++ (hitOf s end (getD keys left 0) ∷ [])
     unfolding partOf
     joined =

@@ -42,7 +42,7 @@ list-requires c κs =
     let d = c .before .before in
     let left : d .loop .left ≡ suc (d .loop .left - 1) = omega (arith, c .before) in
     let closed = rw left at (d .loop .inv .2 (p .0) (p .1) (p .2)) in
-    (_, p .1, closed-hit (p .2) closed (omega (arith, c .before)))
+    (_, p .1, closed-hit (p .2) closed (omega (arith, c .before)) (d .loop .left - 1) (omega (arith, c .before)))
 
 sub-left : tie.Need-sub-left Inv-loop μ-loop
 sub-left c = omega arith
@@ -60,7 +60,7 @@ loop-again c =
       called .kept .1 .0 ∙ d .loop .inv .1,
       λ done old closing.
           let closed = rw left at (d .loop .inv .2 done old closing) in
-          closed-more closing closed more (called .ensures _ old (closed-hit closing closed more)),
+          closed-more closing closed more (called .ensures _ old (closed-hit closing closed more (d .loop .left - 1) more)),
     )
 
 same-length : tie.Need-same-length Inv-loop μ-loop
