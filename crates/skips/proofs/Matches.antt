@@ -4,7 +4,7 @@ use native.Mathlib.Omega.{arith}
 use mathlib.Core.Path.{_≡_, refl, sym, _∙_, ap}
 use mathlib.Core.Bool.{true, false}
 use mathlib.Core.List.{List, _∷_}
-use lib.ListN.{length, take, drop, getD, length-drop}
+use lib.ListN.{length, take, drop, getD, length-take, length-drop}
 use lib.Seq.{drop-cons, drop-drop, take-all}
 use borrow.Author.Tests.{eq-eqb, ne-eqb}
 use Rattle.rules.specs.Strings.{same}
@@ -12,14 +12,14 @@ use Rattle.rules.specs.Sets.{Keyword, keywordOf, recordAt, keywordAt, shortest}
 use Rattle.rules.specs.Skips.{least, inner, edge, holdsBefore, endsWithin}
 use Rattle.rules.proofs.Strings.{same-sym}
 use Rattle.rules.proofs.Sets.{length-keywords}
-use Rattle.rules.proofs.Parts.{part-part}
+use Rattle.rules.proofs.Parts.{drop-take, part-part}
 use Rattle.rules.proofs.Distances.{holds-short, holds-part, ends-whole, ends-short, ends-front}
 use Rattle.sets.specs.Words.{Stated}
 use Rattle.sets.proofs.Records.{length-at, word-length}
 use Rattle.sets.proofs.Passed.{good-file, good-whole, good-stated}
 use Rattle.skips.specs.declared.numbers.Number.{Number}
 use Rattle.skips.specs.declared.numbers.Number.the-variants.{Inner, Edge}
-use Rattle.skips.specs.Suffixes.{Listed, Suffix, suffixAt, testOf, somePasses, largestOf}
+use Rattle.skips.specs.Suffixes.{Listed, Suffix, suffixAt, Part, partAt, testOf, somePasses, largestOf}
 
 -- a keyword of a set that passed: its record, its length and its bytes
 module _ {s : List ℕ} {i : ℕ} (ok : Listed s i) where
@@ -52,6 +52,16 @@ module _ {s : List ℕ} {i : ℕ} (ok : Listed s i) where
       ap (λ (w : List ℕ). take z (drop m w)) word-is
       ∙ part-part s (18 * i + 1) (length (keywordAt s i .word)) m z h
 
+-- its length is a
+pub record Measured (s : List ℕ) (i a : ℕ) : Type 0 where
+  pub long : a ≡ length (keywordAt s i .word)
+  pub whole : 18 * i + 18 ≤ length s
+  pub short : a ≤ 15
+
+pub measured : {s : List ℕ} {i a : ℕ} → Listed s i → a ≡ getD s (18 * i) 0 → Measured s i a
+measured p e =
+    record { long = e ∙ sym (listed-length p); whole = listed-whole p; short = omega (arith, listed-stated p .short) }
+
 -- the last z bytes of it
 module _ {s : List ℕ} {i z : ℕ} (ok : Suffix s i z) where
   pub suffix-length : length (suffixAt s i z) ≡ z
@@ -61,81 +71,72 @@ module _ {s : List ℕ} {i z : ℕ} (ok : Suffix s i z) where
   pub suffix-short : z ≤ 15
   suffix-short = omega (arith, ok .short, listed-short (ok .listed))
 
-  -- the last y of them
-  pub suffix-part : (y : ℕ) → y ≤ z → drop (z - y) (suffixAt s i z) ≡ take y (drop (18 * i + 1 + length (keywordAt s i .word) - y) s)
-  unfolding suffixAt
-  suffix-part y h =
-      let w : List ℕ = keywordAt s i .word in
-      let short : z ≤ length w = ok .short in
-      let behind : length w - z + (z - y) ≡ length w - y = omega arith in
-      let place : 18 * i + 1 + (length w - y) ≡ 18 * i + 1 + length w - y = omega arith in
-      drop-drop (z - y) (length w - z) w
-      ∙ rw behind
-      (sym (take-all y (drop (length w - y) w) (omega (arith, length-drop (length w - y) w)))
-      ∙ word-part (ok .listed) (length w - y) y (omega arith)
-      ∙ rw place)
+  -- where keyword i has the length a, they are a part of the set
+  module _ {a : ℕ} (known : Measured s i a) where
+    pub suffix-within : Part s (18 * i + 1 + a - z) z
+    suffix-within = record { within = omega (arith, known, ok .short); short = omega (arith, known, ok .short) }
 
-  pub suffix-is : suffixAt s i z ≡ take z (drop (18 * i + 1 + length (keywordAt s i .word) - z) s)
-  suffix-is = let none : z - z ≡ 0 = omega arith in rw none at (suffix-part z (omega arith))
+    pub suffix-part : suffixAt s i z ≡ partAt s (18 * i + 1 + a - z) z
+    unfolding suffixAt partAt
+    suffix-part =
+        let w : List ℕ = keywordAt s i .word in
+        let short : z ≤ length w = ok .short in
+        let long : a ≡ length w = known .long in
+        let place : 18 * i + 1 + (length w - z) ≡ 18 * i + 1 + a - z = omega arith in
+        sym (take-all z (drop (length w - z) w) (omega (arith, length-drop (length w - z) w)))
+        ∙ word-part (ok .listed) (length w - z) z (omega arith)
+        ∙ rw place
 
--- two keywords, i of the length a and k of the length b
-pub record Measured (s : List ℕ) (i k a b : ℕ) : Type 0 where
-  pub one : a ≡ length (keywordAt s i .word)
-  pub two : b ≡ length (keywordAt s k .word)
-  pub one-whole : 18 * i + 18 ≤ length s
-  pub two-whole : 18 * k + 18 ≤ length s
-  pub one-short : a ≤ 15
-  pub two-short : b ≤ 15
+-- a part of the set, and the last y bytes of it
+module _ {s : List ℕ} {from z : ℕ} (ok : Part s from z) where
+  pub part-length : length (partAt s from z) ≡ z
+  unfolding partAt
+  part-length = omega (arith, ok .within, length-take z (drop from s), length-drop from s)
 
-pub measured : {s : List ℕ} {i k a b : ℕ} → Listed s i → Listed s k → a ≡ getD s (18 * i) 0 → b ≡ getD s (18 * k) 0 → Measured s i k a b
-measured p q e f =
-    record {
-      one = e ∙ sym (listed-length p);
-      two = f ∙ sym (listed-length q);
-      one-whole = listed-whole p;
-      two-whole = listed-whole q;
-      one-short = omega (arith, listed-stated p .short);
-      two-short = omega (arith, listed-stated q .short);
-    }
+  part-tail : (y : ℕ) → y ≤ z → drop (z - y) (partAt s from z) ≡ take y (drop (from + z - y) s)
+  unfolding partAt
+  part-tail y h =
+      let left : z - (z - y) ≡ y = omega arith in
+      let place : from + (z - y) ≡ from + z - y = omega arith in
+      drop-take (z - y) z (drop from s) ∙ rw (left, drop-drop (z - y) from s, place)
 
--- The two tests of a suffix of keyword i against keyword k.
-module _ {s : List ℕ} {i z k a b : ℕ} (ok : Suffix s i z) (other : Listed s k) (known : Measured s i k a b) (n : ℕ) where
+-- The two tests of a part of the set against keyword k.
+module _ {s : List ℕ} {from z k b : ℕ} (ok : Part s from z) (other : Listed s k) (known : Measured s k b) (n : ℕ) where
   abbrev v : List ℕ
-  v = suffixAt s i z
+  v = partAt s from z
 
   abbrev w : List ℕ
   w = keywordAt s k .word
 
-  pub holds-never : b < n + z → false ≡ holdsBefore (suffixAt s i z) n (keywordAt s k .word)
-  holds-never h = sym (holds-short v w n (omega (arith, known .two, suffix-length ok)))
+  pub holds-never : b < n + z → false ≡ holdsBefore (partAt s from z) n (keywordAt s k .word)
+  holds-never h = sym (holds-short v w n (omega (arith, known .long, part-length ok)))
 
   pub holds-compared : n + z ≤ b
-      → same (take z (drop (18 * i + 1 + a - z) s)) (take z (drop (18 * k + 1 + b - n - z) s)) ≡ holdsBefore (suffixAt s i z) n (keywordAt s k .word)
+      → same (take z (drop from s)) (take z (drop (18 * k + 1 + b - n - z) s)) ≡ holdsBefore (partAt s from z) n (keywordAt s k .word)
+  unfolding partAt
   holds-compared h =
-      let size : length v ≡ z = suffix-length ok in
-      let long : b ≡ length w = known .two in
+      let size : length v ≡ z = part-length ok in
+      let long : b ≡ length w = known .long in
       let place : 18 * k + 1 + (length w - n - z) ≡ 18 * k + 1 + b - n - z = omega arith in
-      sym (holds-part v w n (omega arith)
-      ∙ rw (size, word-part other (length w - n - z) z (omega arith), place, known .one)
-      (ap (λ (l : List ℕ). same l (take z (drop (18 * k + 1 + b - n - z) s))) (suffix-is ok)))
+      sym (holds-part v w n (omega arith) ∙ rw (size, word-part other (length w - n - z) z (omega arith), place))
 
-  pub ends-always : b ≤ n → true ≡ endsWithin (suffixAt s i z) n (keywordAt s k .word)
-  ends-always h = sym (ends-whole v w n (omega (arith, known .two)))
+  pub ends-always : b ≤ n → true ≡ endsWithin (partAt s from z) n (keywordAt s k .word)
+  ends-always h = sym (ends-whole v w n (omega (arith, known .long)))
 
   module _ (longer : n < b) where
-    pub ends-never : z < b - n → false ≡ endsWithin (suffixAt s i z) n (keywordAt s k .word)
-    ends-never h = sym (ends-short v w n (omega (arith, known .two)) (omega (arith, known .two, suffix-length ok)))
+    pub ends-never : z < b - n → false ≡ endsWithin (partAt s from z) n (keywordAt s k .word)
+    ends-never h = sym (ends-short v w n (omega (arith, known .long)) (omega (arith, known .long, part-length ok)))
 
     pub ends-compared : b - n ≤ z
-        → same (take (b - n) (drop (18 * i + 1 + a - (b - n)) s)) (take (b - n) (drop (18 * k + 1) s)) ≡ endsWithin (suffixAt s i z) n (keywordAt s k .word)
+        → same (take (b - n) (drop (from + z - (b - n)) s)) (take (b - n) (drop (18 * k + 1) s)) ≡ endsWithin (partAt s from z) n (keywordAt s k .word)
     ends-compared h =
         let front : List ℕ = take (b - n) (drop (18 * k + 1) s) in
-        let long : b ≡ length w = known .two in
+        let long : b ≡ length w = known .long in
         let root : 18 * k + 1 + 0 ≡ 18 * k + 1 = omega arith in
         let begins : take (b - n) w ≡ front = rw root at (word-part other 0 (b - n) (omega arith)) in
-        sym (ends-front v w n (omega arith) (omega (arith, suffix-length ok))
-        ∙ rw (← long, suffix-length ok, begins, suffix-part ok (b - n) h, ← known .one)
-        (same-sym front (take (b - n) (drop (18 * i + 1 + a - (b - n)) s))))
+        sym (ends-front v w n (omega arith) (omega (arith, part-length ok))
+        ∙ rw (← long, part-length ok, begins, part-tail ok (b - n) h)
+        (same-sym front (take (b - n) (drop (from + z - (b - n)) s))))
 
 -- n bytes from p on and from q on are the same where they are the same behind the k bytes passed
 pub record Matched (s : List ℕ) (p q n k : ℕ) : Type 0 where

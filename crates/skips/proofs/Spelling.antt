@@ -7,11 +7,10 @@ use mathlib.Core.List.{List, [], _∷_, _++_, append-assoc}
 use lib.ListN.{length, take, drop, getD, set, replicate, length-append, replicate-append-replicate}
 use lib.Seq.{take-suc, take-all, length-take-le, set-at, append-snoc, getD-take, getD-drop}
 use Rattle.rules.specs.Limits.{longestWord}
-use Rattle.rules.specs.Sets.{keywordAt}
 use Rattle.rules.specs.Skips.{named}
 use Rattle.rules.proofs.Tables.{named-length}
-use Rattle.skips.specs.Suffixes.{Suffix, suffixAt}
-use Rattle.skips.proofs.Matches.{suffix-is}
+use Rattle.skips.specs.Suffixes.{Suffix, suffixAt, partAt}
+use Rattle.skips.proofs.Matches.{Measured, suffix-part}
 
 -- the length of v and its first k bytes stand in the record
 pub record Spelled (v numbers : List ℕ) (k : ℕ) : Type 0 where
@@ -59,9 +58,9 @@ module _ {v numbers : List ℕ} {k : ℕ} (so : Spelled v numbers k) where
       ∙ append-snoc (named v) a (b ∷ []))
 
 -- a byte of a suffix of keyword i, whose length is a, stands in the set
-pub suffix-at : {s : List ℕ} {i z a : ℕ} → Suffix s i z → a ≡ length (keywordAt s i .word) → (k : ℕ) → k < z
+pub suffix-at : {s : List ℕ} {i z a : ℕ} → Suffix s i z → Measured s i a → (k : ℕ) → k < z
     → getD s (18 * i + 1 + a - z + k) 0 ≡ getD (suffixAt s i z) k 0
-suffix-at {s} {i} {z} {a} ok e k h =
+unfolding partAt
+suffix-at {s} {i} {z} {a} ok known k h =
     let place : ℕ = 18 * i + 1 + a - z in
-    let part : suffixAt s i z ≡ take z (drop place s) = rw e (suffix-is ok) in
-    sym (ap (λ (l : List ℕ). getD l k 0) part ∙ getD-take z (drop place s) k 0 h ∙ getD-drop place s k 0)
+    sym (ap (λ (l : List ℕ). getD l k 0) (suffix-part ok known) ∙ getD-take z (drop place s) k 0 h ∙ getD-drop place s k 0)

@@ -4,7 +4,7 @@ use mathlib.Core.Path.{_≡_}
 use mathlib.Core.Bool.{Bool}
 use mathlib.Core.List.{List, [], _++_}
 use lib.ListN.{length, take, drop, getD}
-use Rattle.rules.specs.Limits.{rowRecord}
+use Rattle.rules.specs.Limits.{longestWord, rowRecord}
 use Rattle.rules.specs.Strings.{any, mostCommon}
 use Rattle.rules.specs.Sets.{Keyword, keywords, keywordsFrom, keywordAt, shortest}
 use Rattle.rules.specs.Rows.{backward, rowsOf}
@@ -28,6 +28,14 @@ pub record Listed (s : List ℕ) (k : ℕ) : Type 0 where
 pub record Suffix (s : List ℕ) (i z : ℕ) : Type 0 where
   pub listed : Listed s i
   pub short : z ≤ length (keywordAt s i .word)
+
+-- z bytes of the set s from a place on; they lie within it, and are no more than a keyword has
+unfoldable pub partAt : List ℕ → ℕ → ℕ → List ℕ
+partAt s from z = take z (drop from s)
+
+pub record Part (s : List ℕ) (from z : ℕ) : Type 0 where
+  pub within : from + z ≤ length s
+  pub short : z ≤ longestWord
 
 -- document 01's test of a number: inner's, that a keyword has the suffix with exactly n bytes after it, or edge's, that some string
 -- made of the suffix and n further bytes ends with the keyword; over all keywords; and the number, the least that passes

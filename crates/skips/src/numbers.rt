@@ -1,4 +1,4 @@
-// inner and edge of a suffix, as document 01 words them: against every keyword at every distance. A suffix is the last z bytes of keyword i.
+// inner and edge of a suffix, as document 01 words them: against every keyword at every distance. A suffix is z bytes of the set from a place on.
 use rules::RECORD;
 use sets::length_of;
 ghost use mathlib.Core.Path.{_≡_};
@@ -6,8 +6,9 @@ ghost use Prim.Native.Nat.{_+_, _*_, _<_, _≤_};
 ghost use lib.ListN.{length, take, drop};
 ghost use Rattle.rules.specs.Strings.{same};
 ghost use Rattle.rules.specs.Sets.{keywords, keywordAt, shortest};
+ghost use Rattle.rules.specs.Refusals.{pass, fileVerdict};
 ghost use Rattle.rules.specs.Skips.{holdsBefore, endsWithin};
-ghost use Rattle.skips.specs.Suffixes.{Suffix, Listed, suffixAt, testOf, somePasses, largestOf};
+ghost use Rattle.skips.specs.Suffixes.{Part, Listed, partAt, testOf, somePasses, largestOf};
 
 // The two numbers of a suffix, each capped at the shortest keyword's length. inner: the least n from 1 up such that some keyword has it with
 // exactly n bytes after it. edge: the least n from 1 up such that some string made of it and n further bytes ends with a keyword.
@@ -32,24 +33,22 @@ fn alike(set: &[u8], p: usize, q: usize, n: usize) -> bool
 }
 
 // Whether keyword k has the suffix with exactly n bytes after it.
-fn holds_before(set: &[u8], i: usize, z: usize, k: usize, n: usize) -> bool
-    requires { ⌜ Suffix (now set) i z × Listed (now set) k × (n < 16) ⌝ }
-    ensures { λ r. ⌜ r ≡ holdsBefore (suffixAt (now (set .entry)) i z) n (keywordAt (now (set .entry)) k .word) ⌝ }
+fn holds_before(set: &[u8], from: usize, z: usize, k: usize, n: usize) -> bool
+    requires { ⌜ Part (now set) from z × Listed (now set) k × (n < 16) ⌝ }
+    ensures { λ r. ⌜ r ≡ holdsBefore (partAt (now (set .entry)) from z) n (keywordAt (now (set .entry)) k .word) ⌝ }
 {
-    let a = length_of(set, i);
     let b = length_of(set, k);
     if b < n + z {
         return false;
     }
-    alike(set, RECORD * i + 1 + a - z, RECORD * k + 1 + b - n - z, z)
+    alike(set, from, RECORD * k + 1 + b - n - z, z)
 }
 
 // Whether some string made of the suffix and n further bytes ends with keyword k.
-fn ends_within(set: &[u8], i: usize, z: usize, k: usize, n: usize) -> bool
-    requires { ⌜ Suffix (now set) i z × Listed (now set) k ⌝ }
-    ensures { λ r. ⌜ r ≡ endsWithin (suffixAt (now (set .entry)) i z) n (keywordAt (now (set .entry)) k .word) ⌝ }
+fn ends_within(set: &[u8], from: usize, z: usize, k: usize, n: usize) -> bool
+    requires { ⌜ Part (now set) from z × Listed (now set) k ⌝ }
+    ensures { λ r. ⌜ r ≡ endsWithin (partAt (now (set .entry)) from z) n (keywordAt (now (set .entry)) k .word) ⌝ }
 {
-    let a = length_of(set, i);
     let b = length_of(set, k);
     if b <= n {
         return true;
@@ -58,29 +57,29 @@ fn ends_within(set: &[u8], i: usize, z: usize, k: usize, n: usize) -> bool
     if z < front {
         return false;
     }
-    alike(set, RECORD * i + 1 + a - front, RECORD * k + 1, front)
+    alike(set, from + z - front, RECORD * k + 1, front)
 }
 
 // Whether keyword k stops the search for a number of the suffix at n.
-fn passes(set: &[u8], i: usize, z: usize, k: usize, n: usize, which: Number) -> bool
-    requires { ⌜ Suffix (now set) i z × Listed (now set) k × (n < 16) ⌝ }
-    ensures { λ r. ⌜ r ≡ testOf which (suffixAt (now (set .entry)) i z) n (keywordAt (now (set .entry)) k .word) ⌝ }
+fn passes(set: &[u8], from: usize, z: usize, k: usize, n: usize, which: Number) -> bool
+    requires { ⌜ Part (now set) from z × Listed (now set) k × (n < 16) ⌝ }
+    ensures { λ r. ⌜ r ≡ testOf which (partAt (now (set .entry)) from z) n (keywordAt (now (set .entry)) k .word) ⌝ }
 {
     match which {
-        Number::Inner => holds_before(set, i, z, k, n),
-        Number::Edge => ends_within(set, i, z, k, n),
+        Number::Inner => holds_before(set, from, z, k, n),
+        Number::Edge => ends_within(set, from, z, k, n),
     }
 }
 
 // Whether some keyword does.
-fn some_passes(set: &[u8], i: usize, z: usize, n: usize, which: Number) -> bool
-    requires { ⌜ Suffix (now set) i z × (n < 16) ⌝ }
-    ensures { λ r. ⌜ r ≡ somePasses which (keywords (now (set .entry))) (suffixAt (now (set .entry)) i z) n ⌝ }
+fn some_passes(set: &[u8], from: usize, z: usize, n: usize, which: Number) -> bool
+    requires { ⌜ Part (now set) from z × (fileVerdict (now set) ≡ pass) × (n < 16) ⌝ }
+    ensures { λ r. ⌜ r ≡ somePasses which (keywords (now (set .entry))) (partAt (now (set .entry)) from z) n ⌝ }
 {
     let count = set.len() / RECORD;
     let mut k = 0;
     while k < count {
-        if passes(set, i, z, k, n, which) {
+        if passes(set, from, z, k, n, which) {
             return true;
         }
         k += 1;
@@ -89,13 +88,13 @@ fn some_passes(set: &[u8], i: usize, z: usize, n: usize, which: Number) -> bool
 }
 
 // A number of the suffix: the least n from 1 up at which some keyword stops the search, capped at m.
-pub(crate) fn largest(set: &[u8], i: usize, z: usize, m: usize, which: Number) -> usize
-    requires { ⌜ Suffix (now set) i z × (m ≡ shortest (keywords (now set))) ⌝ }
-    ensures { λ r. ⌜ (r ≡ largestOf which (keywords (now (set .entry))) (suffixAt (now (set .entry)) i z)) × (r < 16) ⌝ }
+pub(crate) fn largest(set: &[u8], from: usize, z: usize, m: usize, which: Number) -> usize
+    requires { ⌜ Part (now set) from z × (fileVerdict (now set) ≡ pass) × (m ≡ shortest (keywords (now set))) ⌝ }
+    ensures { λ r. ⌜ (r ≡ largestOf which (keywords (now (set .entry))) (partAt (now (set .entry)) from z)) × (r < 16) ⌝ }
 {
     let mut n = 1;
     while n < m {
-        if some_passes(set, i, z, n, which) {
+        if some_passes(set, from, z, n, which) {
             return n;
         }
         n += 1;

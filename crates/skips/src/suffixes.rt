@@ -65,8 +65,8 @@ pub(crate) fn record_of(set: &[u8], at: Place, m: usize) -> [u8; 18]
         numbers[1 + k] = set[from + k];
         k += 1;
     }
-    numbers[16] = largest(set, i, z, m, Number::Inner) as u8;
-    numbers[17] = largest(set, i, z, m, Number::Edge) as u8;
+    numbers[16] = largest(set, from, z, m, Number::Inner) as u8;
+    numbers[17] = largest(set, from, z, m, Number::Edge) as u8;
     numbers
 }
 

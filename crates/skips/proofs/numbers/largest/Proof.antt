@@ -5,27 +5,29 @@ use mathlib.Core.Path.{sym, _∙_}
 use denote.Ref.{now}
 use Rattle.rules.specs.Sets.{keywords, shortest}
 use Rattle.rules.proofs.Searches.{Searched, searched-none, searched-stop, searched-more, searched-all}
-use Rattle.skips.specs.Suffixes.{suffixAt, somePasses}
+use Rattle.skips.specs.Suffixes.{partAt, somePasses}
 use Rattle.skips.proofs.Bounds.{Bounded, shortest-bounded}
 use Rattle.skips.proofs.Matches.{largest-least}
 use Rattle.skips.proofs.numbers.largest.Statement.{statement}
 use Rattle.skips.proofs.numbers.largest.Tie as tie
 
 abbrev Inv-loop : tie.InvT-loop
-Inv-loop set i z m which n₀ n = Searched (shortest (keywords set)) (somePasses which (keywords set) (suffixAt set i z)) n
+Inv-loop set from z m which n₀ n = Searched (shortest (keywords set)) (somePasses which (keywords set) (partAt set from z)) n
 
 abbrev μ-loop : tie.MeasureT-loop
-μ-loop set i z m which n₀ n = m - n
+μ-loop set from z m which n₀ n = m - n
 
 -- m is from 1 to 15
 bounds : (c : tie.Start Inv-loop μ-loop) → Bounded (shortest (keywords (now (c .args .set))))
-bounds c = shortest-bounded (now (c .args .set)) (c .pre .0 .listed .passed)
+bounds c = shortest-bounded (now (c .args .set)) (c .pre .1)
 
 loop-holds : tie.Need-loop-holds Inv-loop μ-loop
 loop-holds c = searched-none _ _ (bounds (c .before) .low)
 
 some-passes-requires : tie.Need-some-passes-requires Inv-loop μ-loop
-some-passes-requires c κs = (c .before .before .before .pre .0, omega (arith, bounds (c .before .before .before)))
+some-passes-requires c κs =
+    let d = c .before .before .before in
+    (d .pre .0, d .pre .1, omega (arith, bounds d))
 
 returns : tie.Need-returns Inv-loop μ-loop
 returns c =

@@ -8,16 +8,16 @@ use Rattle.rules.specs.Strings.{any}
 use Rattle.rules.specs.Sets.{Keyword, keywordsFrom}
 use Rattle.rules.proofs.Sets.{length-keywords}
 use Rattle.rules.proofs.Searches.{some-none, some-more, some-once, some-all}
-use Rattle.skips.specs.Suffixes.{suffixAt, testOf, somePasses}
+use Rattle.skips.specs.Suffixes.{partAt, testOf, somePasses}
 use Rattle.skips.proofs.numbers.some_passes.Statement.{statement}
 use Rattle.skips.proofs.numbers.some_passes.Tie as tie
 
 abbrev Inv-loop : tie.InvT-loop
-Inv-loop set i z n which count k₀ k =
-    (k ≤ count) × (any (λ (l : Keyword). testOf which (suffixAt set i z) n (l .word)) (keywordsFrom 0 k set) ≡ false)
+Inv-loop set from z n which count k₀ k =
+    (k ≤ count) × (any (λ (l : Keyword). testOf which (partAt set from z) n (l .word)) (keywordsFrom 0 k set) ≡ false)
 
 abbrev μ-loop : tie.MeasureT-loop
-μ-loop set i z n which count k₀ k = count - k
+μ-loop set from z n which count k₀ k = count - k
 
 loop-holds : tie.Need-loop-holds Inv-loop μ-loop
 loop-holds c = (omega arith, some-none _ _)
@@ -26,7 +26,7 @@ passes-requires : tie.Need-passes-requires Inv-loop μ-loop
 passes-requires c κs =
     let d = c .before .before .before in
     let known = d .pre in
-    (known .0, record { passed = known .0 .listed .passed; within = omega (arith, length-keywords (now (d .args .set))) }, known .1)
+    (known .0, record { passed = known .1; within = omega (arith, length-keywords (now (d .args .set))) }, known .2)
 
 returns : tie.Need-returns Inv-loop μ-loop
 unfolding somePasses

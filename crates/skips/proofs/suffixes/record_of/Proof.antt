@@ -1,10 +1,12 @@
 -- The record holds the suffix's length and its first k bytes, so at the end the suffix, and then its two numbers.
 use Prim.Native.Nat.{_-_}
 use native.Mathlib.Omega.{arith}
+use mathlib.Core.Path.{sym, _∙_, ap}
 use denote.Ref.{now}
-use Rattle.rules.specs.Skips.{recordOf}
+use Rattle.rules.specs.Sets.{keywords}
+use Rattle.rules.specs.Skips.{inner, edge, recordOf}
 use Rattle.skips.specs.Suffixes.{suffixAt, largestOf}
-use Rattle.skips.proofs.Matches.{Measured, measured, listed-whole, suffix-length, suffix-short}
+use Rattle.skips.proofs.Matches.{Measured, measured, listed-whole, suffix-length, suffix-short, suffix-within, suffix-part}
 use Rattle.skips.proofs.Spelling.{Spelled, spelled-none, spelled-more, spelled-all, suffix-at}
 use Rattle.skips.proofs.suffixes.record_of.Statement.{statement}
 use Rattle.skips.proofs.suffixes.record_of.Tie as tie
@@ -16,10 +18,8 @@ abbrev μ-loop : tie.MeasureT-loop
 μ-loop set m i z from numbers₀ k₀ numbers k = z - k
 
 -- the length that was read is the keyword's
-long : (c : tie.After-length-of Inv-loop μ-loop) → Measured (now (c .before .before .args .set)) (c .before .before .args .at .keyword) (c .before .before .args .at .keyword) (c .length-of .result) (c .length-of .result)
-long c =
-    let listed = c .before .before .pre .0 .listed in
-    measured listed listed (c .length-of .ensures .0) (c .length-of .ensures .0)
+long : (c : tie.After-length-of Inv-loop μ-loop) → Measured (now (c .before .before .args .set)) (c .before .before .args .at .keyword) (c .length-of .result)
+long c = measured (c .before .before .pre .0 .listed) (c .length-of .ensures .0)
 
 mul-from : tie.Need-mul-from Inv-loop μ-loop
 mul-from c = omega (arith, listed-whole (c .before .pre .0 .listed))
@@ -69,11 +69,14 @@ loop-again : tie.Need-loop-again Inv-loop μ-loop
 loop-again c =
     let d = c .before .before in
     let ok = d .before .before .before .pre .0 in
-    let byte = suffix-at ok (long (d .before) .one) (d .loop .k) (c .before .loop-test .taken) in
+    let byte = suffix-at ok (long (d .before)) (d .loop .k) (c .before .loop-test .taken) in
     spelled-more (d .loop .inv) _ byte (omega (arith, suffix-length ok))
 
 largest-requires : tie.Need-largest-requires Inv-loop μ-loop
-largest-requires c κs = c .before .before .before .before .pre
+largest-requires c κs =
+    let d = c .before .before in
+    let known = d .before .before .pre in
+    (suffix-within (known .0) (long d), known .0 .listed .passed, known .1)
 
 cast-numbers-2 : tie.Need-cast-numbers-2 Inv-loop μ-loop
 cast-numbers-2 c = omega arith
@@ -82,7 +85,10 @@ array-write-numbers-3 : tie.Need-array-write-numbers-3 Inv-loop μ-loop
 array-write-numbers-3 c = omega arith
 
 largest-requires-2 : tie.Need-largest-requires-2 Inv-loop μ-loop
-largest-requires-2 c κs = c .before .before .before .before .before .pre
+largest-requires-2 c κs =
+    let d = c .before .before .before in
+    let known = d .before .before .pre in
+    (suffix-within (known .0) (long d), known .0 .listed .passed, known .1)
 
 cast-numbers-3 : tie.Need-cast-numbers-3 Inv-loop μ-loop
 cast-numbers-3 c = omega arith
@@ -94,8 +100,12 @@ returns : tie.Need-returns Inv-loop μ-loop
 unfolding recordOf largestOf
 returns c =
     let d = c .before .before in
-    let size = suffix-length (d .before .before .before .before .pre .0) in
-    rw (c .before .largest .ensures .0, c .largest2 .ensures .0) (spelled-all (d .before .loop .inv) (omega (arith, size)) _ _)
+    let e = d .before .before in
+    let ok = e .before .before .pre .0 in
+    let ks = keywords (now (e .before .before .args .set)) in
+    let part = sym (suffix-part ok (long e)) in
+    rw (c .before .largest .ensures .0 ∙ ap (inner ks) part, c .largest2 .ensures .0 ∙ ap (edge ks) part)
+    (spelled-all (d .before .loop .inv) (omega (arith, suffix-length ok)) _ _)
 
 pub record-of-spec : {M : Type 1} → statement M
 record-of-spec =
