@@ -9,8 +9,8 @@ use Rattle.rules.specs.Limits.{rowCells}
 use Rattle.rules.specs.Strings.{same, any, longestBehind}
 use Rattle.rules.specs.Sets.{Keyword, isKeyword}
 use Rattle.rules.specs.Rows.{forward, starts, readBy, rowsOf, rowOf, keyOf, failureCell, dictionaryCell, Rowed}
-use Rattle.rules.proofs.Strings.{either, passes}
 use Rattle.rules.specs.Sound.{Sound}
+use Rattle.rules.proofs.Strings.{either, passes}
 use Rattle.rules.proofs.Rows.{rowOf-is, rowOf-nil, rowOf-none}
 use Rattle.rules.proofs.PrefixRows.{filled-rows, row-short}
 use Rattle.rules.proofs.Children.{row-filled}

@@ -14,8 +14,8 @@ use Rattle.rules.specs.Limits.{mostKeywords}
 use Rattle.rules.specs.Strings.{same, any, longestBehind}
 use Rattle.rules.specs.Sets.{Keyword, keywords, keywordAt}
 use Rattle.rules.specs.Rows.{forward, readBy, rowsOf, rowOf, failureCell, dictionaryCell}
-use Rattle.rules.proofs.Strings.{either}
 use Rattle.rules.specs.Sound.{Sound}
+use Rattle.rules.proofs.Strings.{either}
 use Rattle.rules.proofs.Sets.{length-keywords, getD-keywords, keywords-mem}
 use Rattle.rules.proofs.Orders.{getD-mem}
 use Rattle.rules.proofs.Rows.{row-at, rowOf-is, rowOf-at, rowOf-nil}

@@ -12,9 +12,9 @@ use Rattle.rules.specs.Strings.{same, suffixes}
 use Rattle.rules.specs.Sets.{Keyword, keywordsThatAre}
 use Rattle.rules.specs.Hits.{Hit, endingAt, hitsAt, hitsAfter, hits, energy, pairs}
 use Rattle.rules.specs.Audit.{Occurs, Before, Ordered, none, next}
+use Rattle.rules.specs.Sound.{Sound}
 use Rattle.rules.proofs.Strings.{same-true, eq-same, suffixes-append, suffixes-mem, keep-mem, mem-keep}
 use Rattle.rules.proofs.Orders.{flatMap-mem, mem-flatMap, ordered-weaken, ordered-append, ordered-map, ordered-flatMap, ordered-keep, ordered-once, falling-few}
-use Rattle.rules.specs.Sound.{Sound}
 
 -- the keywords that are s, and those that end u
 pub thatAre-mem : (s : List ℕ) (ks : List Keyword) {k : Keyword} → List·Memᴰ k (keywordsThatAre s ks) → List·Memᴰ k ks × (k .word ≡ s)

@@ -9,8 +9,8 @@ use lib.ListN.{length}
 use Rattle.rules.specs.Strings.{same, any}
 use Rattle.rules.specs.Sets.{Keyword, keywordOf, keywords, keywordAt, keywordsThatAre, isKeyword}
 use Rattle.rules.specs.Rows.{Way, readBy, keyOf}
-use Rattle.rules.proofs.Strings.{either, never, passes, same-true, eq-same, any-mem}
 use Rattle.rules.specs.Sound.{Sound}
+use Rattle.rules.proofs.Strings.{either, never, passes, same-true, eq-same, any-mem}
 use Rattle.rules.proofs.Sets.{keywords-mem, length-keywords}
 use Rattle.rules.proofs.Dictionary.{isKeyword-true, keywordsThatAre-none, keywordsThatAre-one}
 use Rattle.rules.proofs.Keys.{read-twice, no-keyword-no-key, no-key-no-keyword}

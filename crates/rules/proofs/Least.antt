@@ -12,8 +12,8 @@ use borrow.Author.Tests.{leb-true, leb-false}
 use Rattle.rules.specs.Limits.{longestWord}
 use Rattle.rules.specs.Sets.{Keyword, shortest}
 use Rattle.rules.specs.Skips.{leastFrom, least}
-use Rattle.rules.proofs.Strings.{either, never}
 use Rattle.rules.specs.Sound.{Sound}
+use Rattle.rules.proofs.Strings.{either, never}
 
 -- counting up from n
 from-low : (left n : ℕ) (p : ℕ → Bool) → n ≤ leastFrom left n p

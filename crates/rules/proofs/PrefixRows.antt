@@ -9,8 +9,8 @@ use Rattle.rules.specs.Limits.{longestWord}
 use Rattle.rules.specs.Strings.{same, begins, any}
 use Rattle.rules.specs.Sets.{Keyword}
 use Rattle.rules.specs.Rows.{Way, readBy, starts, rowsOf}
-use Rattle.rules.proofs.Strings.{or-right, begins-true, begins-by, any-true, any-mem}
 use Rattle.rules.specs.Sound.{Sound}
+use Rattle.rules.proofs.Strings.{or-right, begins-true, begins-by, any-true, any-mem}
 use Rattle.rules.proofs.Rows.{rows-are, set-rows-are, readBy-length}
 
 pub prefix-row : (way : Way) (ks : List Keyword) (k : Keyword)

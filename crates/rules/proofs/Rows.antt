@@ -15,8 +15,8 @@ use Rattle.rules.specs.Limits.{longestWord, mostRows}
 use Rattle.rules.specs.Strings.{same, begins, any}
 use Rattle.rules.specs.Sets.{Keyword}
 use Rattle.rules.specs.Rows.{Way, forward, backward, readBy, starts, prefixes, meet, meetWords, rowsOf, placeFrom, rowOf, parent, Rowed}
-use Rattle.rules.proofs.Strings.{either, never, or-cases, or-left, or-right, or-fails-left, or-fails-right, same-true, same-refl, eq-same, begins-true, begins-by, begins-refl, any-true, any-mem, any-append}
 use Rattle.rules.specs.Sound.{Sound}
+use Rattle.rules.proofs.Strings.{either, never, or-cases, or-left, or-right, or-fails-left, or-fails-right, same-true, same-refl, eq-same, begins-true, begins-by, begins-refl, any-true, any-mem, any-append}
 
 -- one byte more, one prefix more; over an append the later prefixes stand behind the first string
 map-same : (l : List (List ℕ)) → map (λ p. p) l ≡ l

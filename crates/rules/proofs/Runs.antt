@@ -16,9 +16,9 @@ use Rattle.rules.specs.Rows.{backward, rowsOf, rowOf}
 use Rattle.rules.specs.Hits.{Hit, endingAt, hitsAt, hitsAfter, hits}
 use Rattle.rules.specs.Skips.{inner, edge, far, suffixRows}
 use Rattle.rules.specs.Runs.{innerIn, edgeIn, farIn, missing, Window, windowFrom, windowAt, moveBy, move, visitsFrom, visits, askedAll, runQuestions, windowHits, runHits}
-use Rattle.rules.proofs.Strings.{either}
 use Rattle.rules.specs.Sound.{Sound}
 use Rattle.rules.specs.Audit.{Allowed, Accepted}
+use Rattle.rules.proofs.Strings.{either}
 use Rattle.rules.proofs.Rows.{rowOf-is, rowOf-nil, rowed-rows}
 use Rattle.rules.proofs.Skips.{stopOf, largest, skip-safe, moveBy-le, moveBy-pos}
 use Rattle.rules.proofs.Windows.{reading-stands, window-reading, window-short, asked-few, ending-none, entered-all}

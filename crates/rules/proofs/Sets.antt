@@ -17,8 +17,8 @@ use Rattle.rules.specs.Sets.{Keyword, keywordOf, keywordsFrom, keywords,
 use Rattle.rules.specs.Rows.{Way, rowsOf}
 use Rattle.rules.specs.Refusals.{Verdict, pass, refuse, orElse, recordVerdict, recordVerdicts, fileVerdict, rowsVerdict, setVerdict}
 use Rattle.rules.specs.Audit.{Ordered, none, next}
-use Rattle.rules.proofs.Strings.{never, any-mem, eq-same, or-fails-left, or-fails-right}
 use Rattle.rules.specs.Sound.{Sound}
+use Rattle.rules.proofs.Strings.{never, any-mem, eq-same, or-fails-left, or-fails-right}
 use Rattle.rules.proofs.Verdicts.{orElse-pass, pass-orElse, refuse-orElse, orElse-assoc, orElse-right, refuseIf-pass}
 
 -- the records behind m more

@@ -14,8 +14,8 @@ use Rattle.rules.specs.Strings.{ends}
 use Rattle.rules.specs.Sets.{Keyword, shortest}
 use Rattle.rules.specs.Skips.{holdsBefore, endsWithin, innerTest, inner, edgeTest, edge, farTest, far}
 use Rattle.rules.specs.Runs.{Stop, start, missing, moveBy}
-use Rattle.rules.proofs.Strings.{either, and-both, or-cases, or-left, or-right, any-true, any-mem, Cut, within, beyond, cuts, ends-true, ends-by}
 use Rattle.rules.specs.Sound.{Sound}
+use Rattle.rules.proofs.Strings.{either, and-both, or-cases, or-left, or-right, any-true, any-mem, Cut, within, beyond, cuts, ends-true, ends-by}
 use Rattle.rules.proofs.Least.{least-pos, least-cap, least-le, least-passes, shortest-le, shortest-pos, first-of}
 
 -- the largest numbers are from 1 to the shortest keyword's length

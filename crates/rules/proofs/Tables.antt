@@ -17,9 +17,9 @@ use Rattle.rules.specs.Skips.{inner, edge, far, suffixRows, count, named
 use Rattle.rules.specs.Runs.{innerIn, edgeIn, farIn}
 use Rattle.rules.specs.Audit.{Allowed, Accepted}
 use Rattle.rules.specs.Refusals.{Verdict, pass, refuseIf, orElse, faulty, rowVerdicts, farVerdicts, tableVerdict}
+use Rattle.rules.specs.Sound.{Sound}
 use Rattle.rules.proofs.Strings.{or-fails-left, or-fails-right, same-true, eq-same}
 use Rattle.rules.proofs.Parts.{getD-map-within}
-use Rattle.rules.specs.Sound.{Sound}
 use Rattle.rules.proofs.Verdicts.{orElse-exactly, test-exactly}
 use Rattle.rules.proofs.Rows.{row-at}
 use Rattle.rules.proofs.Skips.{inner-pos, edge-pos, far-pos}

@@ -11,8 +11,8 @@ use Rattle.rules.specs.Sets.{Keyword, keywordsThatAre}
 use Rattle.rules.specs.Rows.{backward, readBy, prefixes, rowsOf}
 use Rattle.rules.specs.Hits.{endingAt}
 use Rattle.rules.specs.Runs.{Window, Stop, start, missing, windowFrom, windowAt, askedOf, asked, entered}
-use Rattle.rules.proofs.Strings.{never, fails, same-true, ends-by}
 use Rattle.rules.specs.Sound.{Sound}
+use Rattle.rules.proofs.Strings.{never, fails, same-true, ends-by}
 use Rattle.rules.proofs.PrefixRows.{filled-rows, row-short}
 use Rattle.rules.proofs.Rows.{starts-closed, keyword-starts, prefixes-snoc, root-row, rowed-rows}
 use Rattle.rules.proofs.Skips.{stopOf}

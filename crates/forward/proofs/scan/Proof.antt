@@ -9,11 +9,11 @@ use Rattle.rules.specs.Sets.{keywords}
 use Rattle.rules.specs.Refusals.{pass}
 use Rattle.rules.specs.Promises.{forwardVerdict}
 use Rattle.rules.specs.Sound.{Sound}
+use Rattle.rules.specs.Rows.{forward}
 use Rattle.rules.proofs.Bytes.{bytes-sound}
 use Rattle.sets.specs.Words.{wayOf}
 use Rattle.rows.specs.Entry.{enteredVerdict}
 use Rattle.forward.specs.Running.{Scanning, Going}
-use Rattle.rules.specs.Rows.{forward}
 use Rattle.rows.proofs.Admitted.{Admitted}
 use Rattle.forward.proofs.Outcomes.{forward-judged, forward-admitted, forward-refused, start-going, count-few, questions-few, forward-found}
 use Rattle.forward.proofs.scan.Statement.{statement}
