@@ -63,7 +63,7 @@ def main():
     parts = re.split(r"^### (\w+)$", page, flags=re.M)
     sections = dict(zip(parts[1::2], parts[2::2]))
     crates = [Crate(folder) for folder in sorted((TOP / "crates").iterdir())]
-    proofs = "".join(file.read_text() for file in (TOP / "crates").glob("*/proofs/*.antt"))
+    proofs = "".join(file.read_text() for file in (TOP / "crates").glob("*/proofs/**/*.antt"))
     theorems = set(re.findall(r"^ *pub (\S+) :", proofs, re.M))
     everywhere = {name.split("/")[-1] for name in NAME.findall(page)}
     faults = [f"{crate.name}: {fault}" for crate in crates for fault in faults_of(crate, sections.get(crate.name, ""), theorems)]

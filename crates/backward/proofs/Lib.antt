@@ -4,4 +4,3 @@ pub mod Moves
 pub mod Reached
 pub mod Visits
 pub mod Outcomes
-pub mod Agree

@@ -15,6 +15,8 @@ module _ (rowf bytef : List ℕ) (row depth : ℕ) where
   unfolding moveIn moveBy stopAt
   moveIn-start left c e = rw e
 
-  pub moveIn-missing : (left c : ℕ) → (left ≡ 0 → ⊥) → moveIn rowf bytef row depth left c ≡ min (edgeIn rowf row) (max (innerIn rowf row) (farIn bytef c depth))
+  pub moveIn-missing : (left c : ℕ)
+      → (left ≡ 0 → ⊥)
+      → moveIn rowf bytef row depth left c ≡ min (edgeIn rowf row) (max (innerIn rowf row) (farIn bytef c depth))
   unfolding moveIn moveBy
   moveIn-missing left c some = rw (stopAt-missing left c some)

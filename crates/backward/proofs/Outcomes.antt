@@ -7,69 +7,97 @@ use lib.ListN.{length}
 use Rattle.rules.specs.declared.Refusal.{Refusal}
 use Rattle.rules.specs.declared.Scanned.{Scanned}
 use Rattle.rules.specs.Limits.{longestTrace, longestWord, opcodes}
-use Rattle.rules.specs.Sets.{keywords}
+use Rattle.rules.specs.Sets.{Keyword, keywords}
 use Rattle.rules.specs.Rows.{backward, cells}
 use Rattle.rules.specs.Hits.{over}
-use Rattle.rules.specs.Refusals.{pass, refuse, orElse, tableVerdict}
-use Rattle.rules.specs.Answers.{told, numberOf, placeOf}
-use Rattle.rules.specs.Promises.{Backward, onPass, kept, answerOr, withRows, backwardTold, backwardEntry, backwardVerdict}
+use Rattle.rules.specs.Refusals.{Verdict, pass, refuse, orElse, fileVerdict, entryVerdict, tableVerdict}
+use Rattle.rules.specs.Answers.{Told, told, numberOf, placeOf}
+use Rattle.rules.specs.Promises.{Backward, backwardEntry, BackwardOf, onPass, kept, answerOr, withRows, backwardTold}
 use Rattle.rules.specs.Sound.{Sound}
+use Rattle.rules.proofs.Verdicts.{pass-orElse, refuse-orElse}
 use Rattle.rules.proofs.Hits.{hits-few}
 use Rattle.rules.proofs.Runs.{run-asks}
+use Rattle.words.specs.Entries.{Words, keywordsIn}
+use Rattle.sets.proofs.Opened.{Opened}
+use Rattle.rows.proofs.Entering.{Entry}
 use Rattle.rows.proofs.Laying.{over-laid}
-use Rattle.rows.proofs.Admitted.{Admitted}
 use Rattle.backward.specs.declared.Seen.{Seen}
-use Rattle.backward.specs.Windowed.{Prepared, Ran}
+use Rattle.backward.specs.Windowed.{Safe, Ran}
 
--- tests 1 to 9 refuse: nothing is changed
-pub backward-refused : {s t rowf bytef ws hs : List ℕ} (r : Refusal) → refuse (numberOf r) (placeOf r) ≡ backwardEntry s t (length ws) → Backward s t rowf bytef ws hs (told (Scanned.Refused r)) ws hs
-unfolding answerOr kept onPass backwardVerdict orElse
-backward-refused r p = record { answered = rw (← p); rows = rw (← p); listed = rw (← p) }
+-- the tests before the rows are laid refuse: nothing is changed
+pub backward-refused : (v : Verdict) {ks : List Keyword} {t rowf bytef ws hs : List ℕ} (r : Refusal)
+    → v ≡ refuse (numberOf r) (placeOf r)
+    → BackwardOf v ks t rowf bytef ws hs (told (Scanned.Refused r)) ws hs
+unfolding answerOr kept onPass orElse
+backward-refused v r p = record { answered = rw p; rows = rw p; listed = rw p }
 
 -- tests 10 to 14 refuse: the workspace holds the rows
-pub backward-unsafe : {s t rowf bytef ws hs ws′ : List ℕ} (r : Refusal)
-    → backwardEntry s t (length ws) ≡ pass
-    → refuse (numberOf r) (placeOf r) ≡ tableVerdict (keywords s) rowf bytef
-    → ws′ ≡ over (cells backward (keywords s)) ws
-    → Backward s t rowf bytef ws hs (told (Scanned.Refused r)) ws′ hs
-unfolding answerOr kept onPass backwardVerdict orElse withRows
-backward-unsafe r p q laid = record { answered = rw (p, ← q); rows = rw p laid; listed = rw (p, ← q) }
+pub backward-unsafe : (v : Verdict) {ks : List Keyword} {t rowf bytef ws hs ws′ : List ℕ} (r : Refusal)
+    → v ≡ pass
+    → ws′ ≡ over (cells backward ks) ws
+    → tableVerdict ks rowf bytef ≡ refuse (numberOf r) (placeOf r)
+    → BackwardOf v ks t rowf bytef ws hs (told (Scanned.Refused r)) ws′ hs
+unfolding answerOr kept onPass orElse withRows
+backward-unsafe v r p laid q = record { answered = rw (p, q); rows = rw p laid; listed = rw (p, q) }
 
--- all tests passed
-module _ {s t rowf bytef ws : List ℕ} (admitted : Admitted backward s t ws) (sound : Sound (keywords s)) where
-  pub backward-prepared : {ws′ : List ℕ}
-      → ((b : ℕ) → List·Memᴰ b t → b < opcodes)
-      → tableVerdict (keywords s) rowf bytef ≡ pass
-      → ws′ ≡ over (cells backward (keywords s)) ws
-      → Prepared s t rowf bytef ws′
-  backward-prepared bytes safe laid =
-      record {
-        passed = admitted .file;
-        sound = sound;
-        near = admitted .near;
-        bytes = bytes;
-        safe = safe;
-        laid = rw laid (over-laid backward (keywords s) ws sound (admitted .room));
-      }
+-- all tests passed: the run may begin
+pub run-safe : {l : List ℕ} (t ws : List ℕ)
+    → Words l
+    → Sound (keywordsIn l)
+    → Entry backward (keywordsIn l) (length t) (length ws)
+    → {rowf bytef ws′ : List ℕ}
+    → ((b : ℕ) → List·Memᴰ b t → b < opcodes)
+    → ws′ ≡ over (cells backward (keywordsIn l)) ws
+    → tableVerdict (keywordsIn l) rowf bytef ≡ pass
+    → Safe l t rowf bytef ws′
+run-safe {l} t ws words sound entry bytes laid passed =
+    record {
+      words = words;
+      sound = sound;
+      near = entry .near;
+      bytes = bytes;
+      safe = passed;
+      laid = rw laid (over-laid backward (keywordsIn l) ws sound (entry .room));
+    }
 
-  -- the counts fit
-  module _ {hs hs′ : List ℕ} {seen : Seen} (ran : Ran s t rowf bytef hs seen hs′) where
-    pub count-few : seen .tally .count ≤ longestWord * longestTrace
-    count-few = omega (arith, ran .tallied .counted, hits-few sound t, admitted .near)
+-- after the run: the counters have room for what it found
+module _ {ks : List Keyword} (t : List ℕ) {rowf bytef hs hs′ : List ℕ} {seen : Seen}
+    (sound : Sound ks) (near : length t ≤ longestTrace) (ran : Ran ks t rowf bytef hs seen hs′) where
+  pub count-few : seen .tally .count ≤ longestWord * longestTrace
+  count-few = omega (arith, ran .tallied .counted, hits-few sound t)
 
-    pub questions-few : seen .questions ≤ suc longestWord * longestTrace
-    questions-few = omega (arith, ran .asked, run-asks sound rowf bytef t, admitted .near)
+  pub questions-few : seen .questions ≤ suc longestWord * longestTrace
+  questions-few = omega (arith, ran .asked, run-asks sound rowf bytef t)
 
-pub backward-found : {s t rowf bytef ws hs ws′ hs′ : List ℕ} {seen : Seen}
-    → backwardEntry s t (length ws) ≡ pass
-    → tableVerdict (keywords s) rowf bytef ≡ pass
-    → ws′ ≡ over (cells backward (keywords s)) ws
-    → Ran s t rowf bytef hs seen hs′
-    → Backward s t rowf bytef ws hs (told (Scanned.Found (record { count = seen .tally .count; questions = seen .questions; energy = seen .tally .energy }))) ws′ hs′
-unfolding answerOr kept onPass backwardVerdict orElse withRows backwardTold
-backward-found p q laid ran =
+-- and what it answers
+pub backward-found : (v : Verdict) {ks : List Keyword} {t rowf bytef ws hs : List ℕ} {seen : Seen} {ws′ hs′ : List ℕ}
+    → v ≡ pass
+    → ws′ ≡ over (cells backward ks) ws
+    → tableVerdict ks rowf bytef ≡ pass
+    → Ran ks t rowf bytef hs seen hs′
+    → BackwardOf v ks t rowf bytef ws hs
+    (told (Scanned.Found (record { count = seen .tally .count; questions = seen .questions; energy = seen .tally .energy })))
+    ws′
+    hs′
+unfolding answerOr kept onPass orElse withRows backwardTold
+backward-found v p laid q ran =
     record {
       answered = rw (p, q, ran .tallied .counted, ran .asked, ran .tallied .charged);
       rows = rw p laid;
       listed = rw (p, q) (ran .tallied .buffer);
     }
+
+-- with the words of a set that was read, and with a set that was refused
+pub backward-read : {s l t rowf bytef ws hs : List ℕ} {a : Told} {ws′ hs′ : List ℕ}
+    → Opened s l
+    → BackwardOf (entryVerdict backward (keywordsIn l) (length t) (length ws)) (keywordsIn l) t rowf bytef ws hs a ws′ hs′
+    → Backward s t rowf bytef ws hs a ws′ hs′
+unfolding backwardEntry
+backward-read {s} {l} {t} {ws = ws} so promise =
+    rw (pass-orElse (entryVerdict backward (keywords s) (length t) (length ws)) (so .passed)) (rw (so .holds) at promise)
+
+pub backward-unread : (s : List ℕ) {t rowf bytef ws hs : List ℕ} (r : Refusal)
+    → fileVerdict s ≡ refuse (numberOf r) (placeOf r)
+    → Backward s t rowf bytef ws hs (told (Scanned.Refused r)) ws hs
+unfolding backwardEntry
+backward-unread s r e = backward-refused _ r (refuse-orElse _ e)

@@ -3,25 +3,33 @@ use hits::Tally;
 use hits::list;
 use hits::nothing;
 use rows::cells::key;
-use rows::enter::Entered;
-use rows::enter::enter;
+use rows::entry::enter;
 use rows::lay;
 use rows::tree::ask;
+use rules::Counted;
 use rules::DEPTHS;
+use rules::LONGEST;
 use rules::ROW;
 use rules::Scanned;
 use rules::Totals;
 use rules::Way;
-use skips::judge::Judged;
+use sets::read;
 use skips::judge::judge;
+use words::ENTRY;
+use words::LIST;
 ghost use mathlib.Core.Path.{_≡_};
 ghost use mathlib.Core.List.{List, _++_};
 ghost use Prim.Native.Nat.{ℕ, _<_};
+ghost use lib.ListN.{length};
+ghost use Rattle.rules.specs.Rows.{backward};
 ghost use Rattle.rules.specs.Hits.{Hit};
+ghost use Rattle.rules.specs.Refusals.{entryVerdict};
 ghost use Rattle.rules.specs.Answers.{told};
-ghost use Rattle.rules.specs.Promises.{Backward};
+ghost use Rattle.rules.specs.Promises.{Backward, BackwardOf};
+ghost use Rattle.rules.specs.Sound.{Sound};
+ghost use Rattle.words.specs.Entries.{Words, keywordsIn};
 ghost use Rattle.hits.specs.Tallies.{Tallied};
-ghost use Rattle.backward.specs.Windowed.{Moving, moveIn, Closing, windowOf, Prepared, Ran};
+ghost use Rattle.backward.specs.Windowed.{Moving, moveIn, Closing, windowOf, Safe, Ran};
 
 // A byte as a number to count with.
 fn wide(b: u8) -> usize
@@ -41,7 +49,9 @@ fn move_on(
     missing: usize,
 ) -> usize
     requires { ⌜ Moving (now «row_file») (now «byte_file») row depth missing ⌝ }
-    ensures { λ r. ⌜ (r ≡ moveIn (now («row_file» .entry)) (now («byte_file» .entry)) row depth unread missing) × (r < 256) ⌝ }
+    ensures { λ r. ⌜
+        (r ≡ moveIn (now («row_file» .entry)) (now («byte_file» .entry)) row depth unread missing) × (r < 256)
+        ⌝ }
 {
     let edge = wide(row_file[ROW * row + 17]);
     if unread == 0 {
@@ -61,28 +71,32 @@ fn move_on(
 
 // The hits of a window, longest first: the keywords that it met last are listed first.
 fn list_window(
-    set: &[u8],
+    words: &[u16],
     hits: &mut [u32],
     end: usize,
-    keys: [u16; 15],
+    keys: [u16; LONGEST],
     met: usize,
     tally: Tally,
 ) -> Tally
-    requires { ⌜ ((done : List Hit) × (old : List ℕ) × Closing (now set) end keys met done old tally (now hits)) ⌝ }
-    ensures { λ r. ⌜ ((done : List Hit) (old : List ℕ) → Closing (now (set .entry)) end keys met done old tally (now (hits .entry)) → Tallied (done ++ windowOf (now (set .entry)) end keys met) old r (now (hits .exit))) ⌝ }
+    requires { ⌜ ((done : List Hit) × (old : List ℕ) × Closing (now words) end keys met done old tally (now hits)) ⌝ }
+    ensures { λ r. ⌜
+        ((done : List Hit) (old : List ℕ)
+        → Closing (now (words .entry)) end keys met done old tally (now (hits .entry))
+        → Tallied (done ++ windowOf (keywordsIn (now (words .entry))) end keys met) old r (now (hits .exit)))
+        ⌝ }
 {
     let mut next = tally;
     let mut left = met;
     while 0 < left {
-        let k = keys[left - 1] as usize;
-        next = list(set, hits, end, k, next);
+        let number = keys[left - 1] as usize;
+        next = list(words, hits, end, number, next);
         left -= 1;
     }
     next
 }
 
 // What the windows found, and how many questions they asked.
-pub struct Seen {
+pub(crate) struct Seen {
     pub tally: Tally,
     pub questions: usize,
 }
@@ -90,31 +104,36 @@ pub struct Seen {
 // The windows of a trace, one after the other.
 fn run(
     ws: &[u16],
-    set: &[u8],
+    words: &[u16],
     trace: &[u8],
     row_file: &[u8],
     byte_file: &[u8],
     hits: &mut [u32],
 ) -> Seen
-    requires { ⌜ Prepared (now set) (now trace) (now «row_file») (now «byte_file») (now ws) ⌝ }
-    ensures { λ r. ⌜ Ran (now (set .entry)) (now (trace .entry)) (now («row_file» .entry)) (now («byte_file» .entry)) (now (hits .entry)) r (now (hits .exit)) ⌝ }
+    requires { ⌜ Safe (now words) (now trace) (now «row_file») (now «byte_file») (now ws) ⌝ }
+    ensures { λ r. ⌜
+        Ran (keywordsIn (now (words .entry))) (now (trace .entry)) (now («row_file» .entry)) (now («byte_file» .entry))
+        (now (hits .entry))
+        r
+        (now (hits .exit))
+        ⌝ }
 {
     let mut tally = nothing();
     let mut questions = 0;
-    let mut keys = [0u16; 15];
+    let mut keys = [0u16; LONGEST];
     let mut end = wide(row_file[17]);
     while end <= trace.len() {
         let mut met = 0;
-        let mut missing = 0;
+        let mut byte = 0;
         let mut left = end;
         let mut reached = 0;
         let row = 'bytes: loop {
             if left == 0 {
                 break 'bytes reached;
             }
-            missing = wide(trace[left - 1]);
+            byte = wide(trace[left - 1]);
             questions += 1;
-            let found = ask(ws, reached, missing as u16);
+            let found = ask(ws, reached, byte as u16);
             let next = found.child;
             if next == 0 {
                 break 'bytes reached;
@@ -127,10 +146,53 @@ fn run(
                 met += 1;
             }
         };
-        tally = list_window(set, hits, end, keys, met, tally);
-        end += move_on(row_file, byte_file, row, end - left, left, missing);
+        tally = list_window(words, hits, end, keys, met, tally);
+        end += move_on(row_file, byte_file, row, end - left, left, byte);
     }
     Seen { tally, questions }
+}
+
+// The backward scan of a trace for the keywords of a list, with a table: refusals 7 to 14, else what was found.
+fn scan_words(
+    words: &[u16],
+    trace: &[u8],
+    row_file: &[u8],
+    byte_file: &[u8],
+    workspace: &mut [u16],
+    hits: &mut [u32],
+) -> Scanned
+    requires { ⌜ Words (now words) × Sound (keywordsIn (now words)) ⌝ }
+    ensures { λ r. ⌜
+        BackwardOf
+        (entryVerdict backward (keywordsIn (now (words .entry))) (length (now (trace .entry)))
+        (length (now (workspace .entry))))
+        (keywordsIn (now (words .entry)))
+        (now (trace .entry))
+        (now («row_file» .entry))
+        (now («byte_file» .entry))
+        (now (workspace .entry))
+        (now (hits .entry))
+        (told r)
+        (now (workspace .exit))
+        (now (hits .exit))
+        ⌝ }
+{
+    let entered = enter(words, Way::Backward, trace.len(), workspace.len());
+    if let Counted::Refused(fault) = entered {
+        return Scanned::Refused(fault);
+    }
+    let rows = lay(workspace, words, Way::Backward);
+    let judged = judge(words, rows, row_file, byte_file);
+    if let Counted::Refused(fault) = judged {
+        return Scanned::Refused(fault);
+    }
+    let seen = run(workspace, words, trace, row_file, byte_file, hits);
+    let tally = seen.tally;
+    Scanned::Found(Totals {
+        count: tally.count as u32,
+        questions: seen.questions as u32,
+        energy: tally.energy,
+    })
 }
 
 // The backward scan of a trace with a set and a table: refusals 1 to 14, else what was found.
@@ -142,24 +204,18 @@ pub fn scan(
     workspace: &mut [u16],
     hits: &mut [u32],
 ) -> Scanned
-    ensures { λ r. ⌜ Backward (now (set .entry)) (now (trace .entry)) (now («row_file» .entry)) (now («byte_file» .entry)) (now (workspace .entry)) (now (hits .entry)) (told r) (now (workspace .exit)) (now (hits .exit)) ⌝ }
+    ensures { λ r. ⌜
+        Backward (now (set .entry)) (now (trace .entry)) (now («row_file» .entry)) (now («byte_file» .entry))
+        (now (workspace .entry)) (now (hits .entry)) (told r) (now (workspace .exit)) (now (hits .exit))
+        ⌝ }
 {
-    let entered = enter(set, Way::Backward, trace.len(), workspace.len());
-    match entered {
-        Entered::Refused(fault) => Scanned::Refused(fault),
-        Entered::Rows(rows) => {
-            lay(workspace, set, Way::Backward);
-            let judged = judge(set, rows, row_file, byte_file);
-            if let Judged::Refused(fault) = judged {
-                return Scanned::Refused(fault);
-            }
-            let seen = run(workspace, set, trace, row_file, byte_file, hits);
-            let tally = seen.tally;
-            Scanned::Found(Totals {
-                count: tally.count as u32,
-                questions: seen.questions as u32,
-                energy: tally.energy,
-            })
+    let mut list = [0u16; LIST];
+    let found = read(set, &mut list);
+    match found {
+        Counted::Refused(fault) => Scanned::Refused(fault),
+        Counted::Number(count) => {
+            let end = ENTRY * count as usize;
+            scan_words(&list[..end], trace, row_file, byte_file, workspace, hits)
         }
     }
 }

@@ -1,2 +1,2 @@
 -- What a forward scan under way has found.
-pub mod Running
+pub mod Progress

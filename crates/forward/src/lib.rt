@@ -4,24 +4,31 @@ use hits::list;
 use hits::nothing;
 use rows::cells::dictionary;
 use rows::cells::key;
-use rows::enter::Entered;
-use rows::enter::enter;
+use rows::entry::enter;
 use rows::failures::advance;
 use rows::lay;
+use rules::Counted;
 use rules::Scanned;
 use rules::Totals;
 use rules::Way;
+use sets::read;
+use words::ENTRY;
+use words::LIST;
 ghost use mathlib.Core.List.{List, [], _∷_, _++_};
-ghost use Prim.Native.Nat.{ℕ, _+_, _<_};
+ghost use Prim.Native.Nat.{ℕ};
 ghost use lib.ListN.{length};
-ghost use Rattle.rules.specs.Sets.{Keyword, keywords};
+ghost use Rattle.rules.specs.Sets.{Keyword};
+ghost use Rattle.rules.specs.Rows.{forward};
+ghost use Rattle.rules.specs.Sound.{Sound};
+ghost use Rattle.rules.specs.Refusals.{entryVerdict};
 ghost use Rattle.rules.specs.Answers.{told};
-ghost use Rattle.rules.specs.Promises.{Forward};
-ghost use Rattle.forward.specs.Running.{AllFound, Scanning, Ending, Going};
+ghost use Rattle.rules.specs.Promises.{Forward, ForwardOf};
+ghost use Rattle.words.specs.Entries.{Words, keywordsIn};
+ghost use Rattle.forward.specs.Progress.{AllFound, Scanning, Ending, Going};
 
-// A scan under way: the row that stands for what was read, how many bytes that were, how many questions they took, and the hits
-// found in them.
-pub struct Running {
+// A scan under way: the row that stands for what was read, how many bytes that were, how many questions they took, and the
+// hits found in them.
+pub(crate) struct Running {
     pub row: usize,
     pub end: usize,
     pub questions: usize,
@@ -29,7 +36,7 @@ pub struct Running {
 }
 
 // A scan that has read nothing.
-pub fn fresh() -> Running
+pub(crate) fn fresh() -> Running
     ensures { λ r. ⌜ ((ks : List Keyword) (hits : List ℕ) → Scanning ks [] hits r hits) ⌝ }
 {
     Running {
@@ -40,17 +47,24 @@ pub fn fresh() -> Running
     }
 }
 
-// The hits at an end whose row stands for what was read: the row's own keyword, then those of its dictionary rows, longest first.
+// The hits at an end whose row stands for what was read: the row's own keyword, then those of its dictionary rows, longest
+// first.
 fn list_hits(
     ws: &[u16],
-    set: &[u8],
+    words: &[u16],
     hits: &mut [u32],
     row: usize,
     end: usize,
     tally: Tally,
 ) -> Tally
-    requires { ⌜ ((u : List ℕ) × (c : ℕ) × (old : List ℕ) × Ending (now set) u c old (now ws) row end tally (now hits)) ⌝ }
-    ensures { λ r. ⌜ ((u : List ℕ) (c : ℕ) (old : List ℕ) → Ending (now (set .entry)) u c old (now (ws .entry)) row end tally (now (hits .entry)) → AllFound (keywords (now (set .entry))) (u ++ (c ∷ [])) old r (now (hits .exit))) ⌝ }
+    requires { ⌜
+        ((u : List ℕ) × (c : ℕ) × (old : List ℕ) × Ending (now words) u c old (now ws) row end tally (now hits))
+        ⌝ }
+    ensures { λ r. ⌜
+        ((u : List ℕ) (c : ℕ) (old : List ℕ)
+        → Ending (now (words .entry)) u c old (now (ws .entry)) row end tally (now (hits .entry))
+        → AllFound (keywordsIn (now (words .entry))) (u ++ (c ∷ [])) old r (now (hits .exit)))
+        ⌝ }
 {
     let mut next = tally;
     let mut at = row;
@@ -58,22 +72,26 @@ fn list_hits(
         at = dictionary(ws, row);
     }
     while at != 0 {
-        let k = key(ws, at) - 1;
-        next = list(set, hits, end, k, next);
+        let number = key(ws, at) - 1;
+        next = list(words, hits, end, number, next);
         at = dictionary(ws, at);
     }
     next
 }
 
 // One byte of the trace.
-fn step(ws: &[u16], set: &[u8], hits: &mut [u32], c: u16, run: Running) -> Running
-    requires { ⌜ ((u : List ℕ) × (old : List ℕ) × Going (now set) u old (now ws) 1 run (now hits)) ⌝ }
-    ensures { λ r. ⌜ ((u : List ℕ) (old : List ℕ) → Going (now (set .entry)) u old (now (ws .entry)) 1 run (now (hits .entry)) → Scanning (keywords (now (set .entry))) (u ++ (c ∷ [])) old r (now (hits .exit))) ⌝ }
+fn step(ws: &[u16], words: &[u16], hits: &mut [u32], c: u16, run: Running) -> Running
+    requires { ⌜ ((u : List ℕ) × (old : List ℕ) × Going (now words) u old (now ws) 1 run (now hits)) ⌝ }
+    ensures { λ r. ⌜
+        ((u : List ℕ) (old : List ℕ)
+        → Going (now (words .entry)) u old (now (ws .entry)) 1 run (now (hits .entry))
+        → Scanning (keywordsIn (now (words .entry))) (u ++ (c ∷ [])) old r (now (hits .exit)))
+        ⌝ }
 {
     let moved = advance(ws, run.row, c);
     let end = run.end + 1;
     let questions = run.questions + moved.asked;
-    let tally = list_hits(ws, set, hits, moved.row, end, run.tally);
+    let tally = list_hits(ws, words, hits, moved.row, end, run.tally);
     Running {
         row: moved.row,
         end,
@@ -83,32 +101,74 @@ fn step(ws: &[u16], set: &[u8], hits: &mut [u32], c: u16, run: Running) -> Runni
 }
 
 // The bytes of a trace, from wherever the scan stands.
-pub fn proceed(ws: &[u16], set: &[u8], trace: &[u8], hits: &mut [u32], run: Running) -> Running
-    requires { ⌜ ((u : List ℕ) × (old : List ℕ) × Going (now set) u old (now ws) (length (now trace)) run (now hits)) ⌝ }
-    ensures { λ r. ⌜ ((u : List ℕ) (old : List ℕ) → Going (now (set .entry)) u old (now (ws .entry)) (length (now (trace .entry))) run (now (hits .entry)) → Scanning (keywords (now (set .entry))) (u ++ now (trace .entry)) old r (now (hits .exit))) ⌝ }
+pub(crate) fn proceed(
+    ws: &[u16],
+    words: &[u16],
+    trace: &[u8],
+    hits: &mut [u32],
+    run: Running,
+) -> Running
+    requires { ⌜
+        ((u : List ℕ) × (old : List ℕ) × Going (now words) u old (now ws) (length (now trace)) run (now hits))
+        ⌝ }
+    ensures { λ r. ⌜
+        ((u : List ℕ) (old : List ℕ)
+        → Going (now (words .entry)) u old (now (ws .entry)) (length (now (trace .entry))) run (now (hits .entry))
+        → Scanning (keywordsIn (now (words .entry))) (u ++ now (trace .entry)) old r (now (hits .exit)))
+        ⌝ }
 {
     let mut next = run;
     let mut i = 0;
     while i < trace.len() {
-        next = step(ws, set, hits, trace[i] as u16, next);
+        next = step(ws, words, hits, trace[i] as u16, next);
         i += 1;
     }
     next
 }
 
-// The forward scan of a trace with a set: refusals 1 to 9, else what was found.
-pub fn scan(set: &[u8], trace: &[u8], workspace: &mut [u16], hits: &mut [u32]) -> Scanned
-    ensures { λ r. ⌜ Forward (now (set .entry)) (now (trace .entry)) (now (workspace .entry)) (now (hits .entry)) (told r) (now (workspace .exit)) (now (hits .exit)) ⌝ }
+// The forward scan of a trace with keywords that passed their tests: refusals 7 to 9, else what was found.
+fn scan_words(words: &[u16], trace: &[u8], workspace: &mut [u16], hits: &mut [u32]) -> Scanned
+    requires { ⌜ Words (now words) × Sound (keywordsIn (now words)) ⌝ }
+    ensures { λ r. ⌜
+        ForwardOf
+        (entryVerdict forward (keywordsIn (now (words .entry))) (length (now (trace .entry)))
+        (length (now (workspace .entry))))
+        (keywordsIn (now (words .entry)))
+        (now (trace .entry))
+        (now (workspace .entry))
+        (now (hits .entry))
+        (told r)
+        (now (workspace .exit))
+        (now (hits .exit))
+        ⌝ }
 {
-    let entered = enter(set, Way::Forward, trace.len(), workspace.len());
-    if let Entered::Refused(fault) = entered {
+    let entered = enter(words, Way::Forward, trace.len(), workspace.len());
+    if let Counted::Refused(fault) = entered {
         return Scanned::Refused(fault);
     }
-    lay(workspace, set, Way::Forward);
-    let found = proceed(workspace, set, trace, hits, fresh());
+    lay(workspace, words, Way::Forward);
+    let found = proceed(workspace, words, trace, hits, fresh());
     Scanned::Found(Totals {
         count: found.tally.count as u32,
         questions: found.questions as u32,
         energy: found.tally.energy,
     })
+}
+
+// The forward scan of a trace with a set: refusals 1 to 9, else what was found.
+pub fn scan(set: &[u8], trace: &[u8], workspace: &mut [u16], hits: &mut [u32]) -> Scanned
+    ensures { λ r. ⌜
+        Forward (now (set .entry)) (now (trace .entry)) (now (workspace .entry)) (now (hits .entry)) (told r)
+        (now (workspace .exit)) (now (hits .exit))
+        ⌝ }
+{
+    let mut list = [0u16; LIST];
+    let found = read(set, &mut list);
+    match found {
+        Counted::Refused(fault) => Scanned::Refused(fault),
+        Counted::Number(count) => {
+            let end = ENTRY * count as usize;
+            scan_words(&list[..end], trace, workspace, hits)
+        }
+    }
 }

@@ -2,13 +2,18 @@
 use Prim.Native.Nat.{ℕ, _+_, _*_, _/_, _≤_, _<_}
 use native.Mathlib.Omega.{arith}
 use mathlib.Core.Path.{_≡_, refl, sym, _∙_, ap}
-use mathlib.Core.List.{List, [], _∷_, _++_}
+use mathlib.Core.List.{List, [], _∷_, _++_, List·Memᴰ}
 use lib.ListN.{length, set, length-append}
+use Rattle.rules.specs.Limits.{mostKeywords, mostEnergy}
+use Rattle.rules.specs.Sets.{Keyword}
+use Rattle.rules.specs.Sound.{nth, numbered}
 use Rattle.rules.specs.Hits.{Hit, energy, hitBuffer}
 use Rattle.rules.proofs.Hits.{energy-append}
+use Rattle.rules.proofs.KeyNumbers.{numbered-is}
 use Rattle.rules.proofs.Buffers.{hit-buffer-none, hit-buffer-more, hit-buffer-full, hit-buffer-length}
+use Rattle.words.specs.Entries.{keywordsIn}
 use Rattle.hits.specs.declared.Tally.{Tally}
-use Rattle.hits.specs.Tallies.{Tallied}
+use Rattle.hits.specs.Tallies.{Tallied, Hitting, hitOf}
 
 -- nothing found
 pub tallied-none : (old : List ℕ) → Tallied [] old (record { count = 0; energy = 0; listed = 0 }) old
@@ -59,3 +64,28 @@ module _ {done : List Hit} {old : List ℕ} {tally : Tally} {hs : List ℕ} (tal
         listed = omega (arith, tallied .listed, size, length-append done (h ∷ []));
         buffer = kept ∙ tallied .buffer ∙ sym (hit-buffer-full done (h ∷ []) old none);
       }
+
+-- what is known of the keyword that is hit
+module _ {l : List ℕ} {end n : ℕ} {done : List Hit} {old : List ℕ} {tally : Tally} {hs : List ℕ} (so : Hitting l end n done old tally hs) where
+  is : numbered (keywordsIn l) n ≡ so .named .0
+  is = ap (numbered (keywordsIn l)) (sym (so .named .2)) ∙ numbered-is (so .sound .numbered) (so .named .1)
+
+  pub hitting-named : hitOf (keywordsIn l) end n .keyword .number ≡ n
+  unfolding hitOf
+  hitting-named = ap (λ (k : Keyword). k .number) is ∙ so .named .2
+
+  pub hitting-small : n < mostKeywords
+  hitting-small = omega (arith, so .sound .slots (so .named .0) (so .named .1), so .named .2)
+
+  pub hitting-figure : hitOf (keywordsIn l) end n .keyword .energy ≤ mostEnergy
+  unfolding hitOf
+  hitting-figure = rw is (so .sound .figures (so .named .0) (so .named .1))
+
+  pub hitting-charged : (i : ℕ) {energy : ℕ}
+      → energy ≡ nth (keywordsIn l) i .energy
+      → ((k : Keyword) → List·Memᴰ k (keywordsIn l) → k .number ≡ n → nth (keywordsIn l) i ≡ k)
+      → energy ≡ hitOf (keywordsIn l) end n .keyword .energy
+  unfolding hitOf
+  hitting-charged i e place =
+      let here = place (so .named .0) (so .named .1) (so .named .2) in
+      e ∙ rw (here, is)

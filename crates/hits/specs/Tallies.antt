@@ -1,16 +1,18 @@
 -- What a scan has counted and listed of its hits, whichever way it scans.
-use Prim.Native.Nat.{ℕ, _+_, _*_, _/_, _≤_, _<_, min}
+use Prim.Native.Nat.{ℕ, _*_, _/_, _≤_, min}
 use mathlib.Core.Path.{_≡_}
-use mathlib.Core.List.{List}
+use mathlib.Core.List.{List, List·Memᴰ}
 use lib.ListN.{length}
-use Rattle.rules.specs.Limits.{recordSize, longestWord, mostKeywords, longestTrace, mostEnergy}
-use Rattle.rules.specs.Sets.{keywordAt}
+use Rattle.rules.specs.Limits.{longestWord, longestTrace, mostEnergy}
+use Rattle.rules.specs.Sets.{Keyword}
 use Rattle.rules.specs.Hits.{Hit, energy, hitBuffer}
+use Rattle.rules.specs.Sound.{Sound, numbered}
+use Rattle.words.specs.Entries.{Words, keywordsIn}
 use Rattle.hits.specs.declared.Tally.{Tally}
 
--- the hit of keyword k of the set s at an end
-unfoldable pub hitOf : List ℕ → ℕ → ℕ → Hit
-hitOf s end k = record { end = end; keyword = keywordAt s k }
+-- the hit at an end of the keyword with a number
+unfoldable pub hitOf : List Keyword → ℕ → ℕ → Hit
+hitOf ks end n = record { end = end; keyword = numbered ks n }
 
 -- the hits `done` are counted, and listed in a buffer that held `old` when the scan began
 pub record Tallied (done : List Hit) (old : List ℕ) (tally : Tally) (hs : List ℕ) : Type 0 where
@@ -19,10 +21,15 @@ pub record Tallied (done : List Hit) (old : List ℕ) (tally : Tally) (hs : List
   pub listed : tally .listed ≡ min (length done) (length old / 2)
   pub buffer : hs ≡ hitBuffer done old
 
--- before one hit more, of keyword k at an end: the tally so far, and room in the counters
-pub record Hitting (s : List ℕ) (end k : ℕ) (done : List Hit) (old : List ℕ) (tally : Tally) (hs : List ℕ) : Type 0 where
-  pub whole : recordSize * k + recordSize ≤ length s
-  pub small : k < mostKeywords
+-- some keyword has the number n
+abbrev pub Named : List Keyword → ℕ → Type 0
+Named ks n = (k : Keyword) × List·Memᴰ k ks × (k .number ≡ n)
+
+-- before one hit more, at an end, of the keyword of the list l with the number n: the tally so far, and room in the counters
+pub record Hitting (l : List ℕ) (end n : ℕ) (done : List Hit) (old : List ℕ) (tally : Tally) (hs : List ℕ) : Type 0 where
+  pub words : Words l
+  pub sound : Sound (keywordsIn l)
+  pub named : Named (keywordsIn l) n
   pub near : end ≤ longestTrace
   pub few : length done ≤ longestWord * longestTrace
   pub little : energy done ≤ mostEnergy * length done

@@ -2,3 +2,4 @@
 pub mod Digits
 pub mod Telling
 pub mod Determined
+pub mod Numbers

@@ -1,13 +1,14 @@
 // An answer in document 01's numbers, and in the twenty bytes of the host call.
+use rules::Counted;
 use rules::Refusal;
 use rules::Scanned;
-use rules::Tabled;
 ghost use mathlib.Core.Path.{_≡_};
 ghost use Prim.Native.Nat.{_+_, _<_, _≤_};
 ghost use lib.ListN.{length};
 ghost use lib.Seq.{sets};
+ghost use Rattle.rules.specs.Limits.{answerSize};
 ghost use Rattle.rules.specs.Hits.{over};
-ghost use Rattle.rules.specs.Answers.{numberOf, placeOf, told, toldRefusal, toldTable, answerBytes, lowFirst};
+ghost use Rattle.rules.specs.Answers.{numberOf, placeOf, told, toldRefusal, toldCounted, answerBytes, lowFirst};
 ghost use Rattle.host.specs.Calls.{toldOf};
 
 // An answer: number 0 is no refusal.
@@ -99,15 +100,15 @@ pub fn from_scanned(scanned: Scanned) -> Answer
 }
 
 // The answer of making or of the check: the rows stand where a scan has its count.
-pub(crate) fn from_tabled(tabled: Tabled) -> Answer
-    ensures { λ r. ⌜ toldOf r ≡ toldTable tabled ⌝ }
+pub(crate) fn from_counted(counted: Counted) -> Answer
+    ensures { λ r. ⌜ toldOf r ≡ toldCounted counted ⌝ }
 {
-    match tabled {
-        Tabled::Refused(why) => refused(why),
-        Tabled::Rows(rows) => Answer {
+    match counted {
+        Counted::Refused(why) => refused(why),
+        Counted::Number(number) => Answer {
             number: 0,
             place: 0,
-            count: rows as u32,
+            count: number as u32,
             questions: 0,
             energy: 0,
         },
@@ -130,7 +131,7 @@ fn put(answer: &mut [u8], from: usize, width: usize, value: u64)
 
 // The answer in its twenty bytes, at the front of a buffer.
 pub(crate) fn write(answer: &mut [u8], found: Answer)
-    requires { ⌜ 20 ≤ length (now answer) ⌝ }
+    requires { ⌜ answerSize ≤ length (now answer) ⌝ }
     ensures { λ _. ⌜ now (answer .exit) ≡ over (answerBytes (toldOf found)) (now (answer .entry)) ⌝ }
 {
     put(answer, 0, 2, found.number as u64);

@@ -1,8 +1,8 @@
 // What the host compiler and the bench group call, as C functions over slices. Each needs no earlier check.
 pub mod answer; // answer.rt: an answer in its twenty bytes
 
+use crate::answer::from_counted;
 use crate::answer::from_scanned;
-use crate::answer::from_tabled;
 use crate::answer::write;
 use backward::scan as scan_backward;
 use forward::scan;
@@ -82,7 +82,7 @@ pub extern "C" fn bezowik_make(
     if answer.len() < ANSWER {
         return 17;
     }
-    let made = from_tabled(make(set, workspace, row_buffer, byte_buffer));
+    let made = from_counted(make(set, workspace, row_buffer, byte_buffer));
     write(answer, made);
     made.number
 }
@@ -101,7 +101,7 @@ pub extern "C" fn bezowik_check(
     if answer.len() < ANSWER {
         return 17;
     }
-    let checked = from_tabled(check(set, row_file, byte_file, workspace));
+    let checked = from_counted(check(set, row_file, byte_file, workspace));
     write(answer, checked);
     checked.number
 }

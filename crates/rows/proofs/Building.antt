@@ -1,24 +1,23 @@
--- The rows of a set are built keyword by keyword: each keyword's rows stand behind those of the keywords before it, and what is
+-- The rows of keywords are built keyword by keyword: each keyword's rows stand behind those of the keywords before it, and what is
 -- beyond the last of them is as it was.
-use Prim.Native.Nat.{ℕ, _+_, _-_, _*_, _/_, _≤_, _<_}
+use Prim.Native.Nat.{ℕ, _+_, _*_, _≤_, _<_}
 use native.Mathlib.Omega.{arith}
 use mathlib.Core.Path.{_≡_, refl, sym, _∙_, ap}
 use mathlib.Core.List.{List, [], _∷_}
-use lib.ListN.{length, getD, drop, replicate, getD-replicate, List·getD-append}
-use lib.Seq.{sets, length-sets}
-use Rattle.rules.specs.Limits.{rowCells, recordSize}
-use Rattle.rules.specs.Sets.{Keyword, keywordsFrom, keywords}
+use lib.ListN.{length, getD, take, drop, replicate, getD-replicate, List·getD-append}
+use lib.Seq.{sets, length-sets, take-all, take-take}
+use Rattle.rules.specs.Limits.{rowCells}
+use Rattle.rules.specs.Sets.{Keyword}
 use Rattle.rules.specs.Rows.{Way, meetWords, rowsOf, placeFrom, keyOf}
 use Rattle.rules.specs.Hits.{over}
-use Rattle.rules.specs.Refusals.{pass, fileVerdict}
-use Rattle.rules.proofs.Sets.{file-passed, keywordsFrom-append}
-use Rattle.rules.proofs.Rows.{rowed-nil, rows-grow}
+use Rattle.rules.specs.Sound.{Sound}
+use Rattle.rules.proofs.Rows.{rowed-nil}
 use Rattle.rules.proofs.Buffers.{over-none, over-sets, over-rest}
 use Rattle.rules.proofs.Children.{childOf-nil}
-use Rattle.sets.proofs.Passed.{good-front, good-file}
 use Rattle.rows.specs.Tree.{Column, Beyond, byteOf, childrenOf, siblingsOf}
 use Rattle.rows.specs.Builds.{rowsTo, Inserting, Built}
 use Rattle.rows.proofs.Columns.{beyond-more, beyond-trans}
+use Rattle.rows.proofs.Spelling.{rows-within}
 
 -- row 0 alone: six zeros
 abbrev root : List ℕ
@@ -83,41 +82,37 @@ built-on {rows = rows} {rows′} {ws} {ws′} {ws″} grown so on =
 pub built-beyond : {way : Way} {ks : List Keyword} {rows : ℕ} (ws ws′ : List ℕ) → Built way ks rows ws ws′ → Beyond (length (rowsOf way ks)) ws ws′
 built-beyond ws ws′ so = rw (so .counted) at (so .beyond)
 
--- the first keywords of a set have no more rows than further ones, or than all
-rows-to : (way : Way) (s : List ℕ) (n m : ℕ) → n ≤ m → length (rowsTo way s n) ≤ length (rowsTo way s m)
-rows-to way s n m h =
-    let cut : m ≡ n + (m - n) = omega arith in
-    rw (cut, keywordsFrom-append 0 n (m - n) s)
-    (rows-grow way (keywordsFrom 0 n s) (keywordsFrom (0 + n) (m - n) (drop (recordSize * n) s)))
-
--- One keyword more of a set that passed, and all of them.
-module _ (way : Way) (s : List ℕ) (i : ℕ) where
+-- One keyword more, and all of them.
+module _ (way : Way) (ks : List Keyword) (i : ℕ) where
   pub built-inserting : {rows : ℕ} {ws ws′ : List ℕ}
-      → fileVerdict s ≡ pass
-      → i < length s / recordSize
-      → rowCells * length (rowsOf way (keywords s)) ≤ length ws
-      → Built way (keywordsFrom 0 i s) rows ws ws′
-      → Inserting way s i rows ws′
-  unfolding keywords
-  built-inserting passed h room so =
+      → Sound ks
+      → i < length ks
+      → rowCells * length (rowsOf way ks) ≤ length ws
+      → Built way (take i ks) rows ws ws′
+      → Inserting way ks i rows ws′
+  built-inserting sound h room so =
       record {
-        good = good-front (good-file s passed) (i + 1) (omega arith);
-        few = omega (arith, file-passed s passed .few);
+        sound = sound;
+        within = h;
         counted = so .counted;
         held = so .held;
-        room = omega (arith, rows-to way s (i + 1) (length s / recordSize) (omega arith), so .beyond .0);
+        room = omega (arith, rows-within way ks (i + 1), so .beyond .0);
       }
 
   pub built-more : {rows rows′ : ℕ} {ws ws′ ws″ : List ℕ}
-      → Built way (keywordsFrom 0 i s) rows ws ws′
-      → Built way (keywordsFrom 0 (i + 1) s) rows′ ws′ ws″
-      → Built way (keywordsFrom 0 (i + 1) s) rows′ ws ws″
-  built-more so on = built-on (omega (arith, so .counted, on .counted, rows-to way s i (i + 1) (omega arith))) so on
+      → Built way (take i ks) rows ws ws′
+      → Built way (take (i + 1) ks) rows′ ws′ ws″
+      → Built way (take (i + 1) ks) rows′ ws ws″
+  built-more so on =
+      let grown : length (rowsTo way ks i) ≤ length (rowsTo way ks (i + 1)) =
+      rw (take-take i (i + 1) ks (omega arith)) at (rows-within way (take (i + 1) ks) i) in
+      built-on (omega (arith, so .counted, on .counted)) so on
 
   pub built-all : {rows : ℕ} {ws ws′ ws″ : List ℕ}
-      → length s / recordSize ≡ i
+      → length ks ≤ i
       → Built way [] 1 ws ws′
-      → Built way (keywordsFrom 0 i s) rows ws′ ws″
-      → Built way (keywords s) rows ws ws″
-  unfolding keywords
-  built-all all so on = rw all (built-on (omega (arith, on .counted, on .held .tree .rowed .some)) so on)
+      → Built way (take i ks) rows ws′ ws″
+      → Built way ks rows ws ws″
+  built-all all so on =
+      let whole = rw (take-all i ks all) at on in
+      built-on (omega (arith, whole .counted, whole .held .tree .rowed .some)) so whole

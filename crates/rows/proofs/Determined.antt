@@ -1,23 +1,11 @@
 -- No input has two outcomes: each number of an answer is a function of the rows and of what was asked.
 use Prim.Native.Nat.{ℕ}
-use mathlib.Core.Path.{_≡_, refl, sym, _∙_, ap}
+use mathlib.Core.Path.{_≡_}
 use mathlib.Core.List.{List}
-use Rattle.rules.specs.Rows.{Way}
-use Rattle.rules.proofs.Answers.{refused-same, passed-refused}
 use Rattle.rows.specs.declared.tree.Asked.{Asked}
 use Rattle.rows.specs.declared.failures.Advanced.{Advanced}
-use Rattle.rows.specs.declared.enter.Entered.{Entered}
-use Rattle.rows.specs.declared.enter.Entered.the-variants.{Rows, Refused}
 use Rattle.rows.specs.Tree.{Answered}
 use Rattle.rows.specs.Falls.{Moved}
-use Rattle.rows.specs.Entry.{enteredVerdict, Admission}
-
-pub admission-determined : {way : Way} {s : List ℕ} {trace room : ℕ} (r q : Entered) → Admission way s trace room r → Admission way s trace room q → r ≡ q
-unfolding enteredVerdict
-admission-determined (Rows n) (Rows m) f g = ap Rows (f .counted n refl ∙ sym (g .counted m refl))
-admission-determined (Rows n) (Refused q) f g = passed-refused (f .judged ∙ sym (g .judged))
-admission-determined (Refused r) (Rows m) f g = passed-refused (g .judged ∙ sym (f .judged))
-admission-determined (Refused r) (Refused q) f g = ap Refused (refused-same r q (f .judged ∙ sym (g .judged)))
 
 pub answered-determined : {R : List (List ℕ)} {s : List ℕ} {c : ℕ} (r q : Asked) → Answered R s c r → Answered R s c q → r ≡ q
 answered-determined r q f g =

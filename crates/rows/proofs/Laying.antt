@@ -92,14 +92,14 @@ columns-over way ks ws ws′ room beyond columns =
 
     at : (n : ℕ) → n < length (cells way ks) → getD (take (length (cells way ks)) ws′) n 0 ≡ getD (cells way ks) n 0
     at n q =
-        let i : ℕ = n / 6 in
-        let k : ℕ = n % 6 in
-        let place : n ≡ rowCells * (n / 6) + n % 6 = omega arith in
-        let within : n / 6 < length (rowsOf way ks) = omega (arith, size) in
+        let i : ℕ = n / rowCells in
+        let k : ℕ = n % rowCells in
+        let place : n ≡ rowCells * (n / rowCells) + n % rowCells = omega arith in
+        let within : n / rowCells < length (rowsOf way ks) = omega (arith, size) in
         getD-take (length (cells way ks)) ws′ n 0 q
         ∙ ap (λ (m : ℕ). getD ws′ m 0) place
-        ∙ columns (n % 6) (omega arith) (n / 6) within
-        ∙ sym (cells-at way ks (n / 6) (n % 6) within (omega arith))
+        ∙ columns (n % rowCells) (omega arith) (n / rowCells) within
+        ∙ sym (cells-at way ks (n / rowCells) (n % rowCells) within (omega arith))
         ∙ ap (λ (m : ℕ). getD (cells way ks) m 0) (sym place)
 
 pub over-columns : (way : Way) (ks : List Keyword) (ws : List ℕ) (k : ℕ)

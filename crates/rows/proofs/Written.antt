@@ -49,7 +49,7 @@ module _ {ks : List Keyword} {d parent c row : ℕ} {ws ws′ : List ℕ} (f : F
   pub right-new : Right ks ws′ row
   right-new =
       let first : List ℕ = set ws (rowCells * row + 3) (failAt ks row) in
-      let room : rowCells * row + 6 ≤ length ws = omega (arith, within, f .tree .room) in
+      let room : rowCells * row + rowCells ≤ length ws = omega (arith, within, f .tree .room) in
       let size = length-set ws (rowCells * row + 3) (failAt ks row) in
       rw (w .written) (
         getD-set-other first (rowCells * row + 5) (rowCells * row + 3) (dictAt ks row) 0 (λ e. omega arith)
@@ -68,7 +68,7 @@ module _ {ks : List Keyword} {d parent c row : ℕ} {ws ws′ : List ℕ} (f : F
       ))
 
   -- the columns that no write reaches
-  column : (k : ℕ) → k < 6 → (k ≡ 3 → ⊥) → (k ≡ 5 → ⊥) → (i : ℕ) → getD ws′ (rowCells * i + k) 0 ≡ getD ws (rowCells * i + k) 0
+  column : (k : ℕ) → k < rowCells → (k ≡ 3 → ⊥) → (k ≡ 5 → ⊥) → (i : ℕ) → getD ws′ (rowCells * i + k) 0 ≡ getD ws (rowCells * i + k) 0
   column k small a b i = other (rowCells * i + k) (λ e. a (omega arith)) (λ e. b (omega arith))
 
   pub filling-kept : Filling ks d ws′

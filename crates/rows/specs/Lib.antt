@@ -4,4 +4,3 @@ pub mod Builds
 pub mod Falls
 pub mod Levels
 pub mod Laid
-pub mod Entry

@@ -7,6 +7,7 @@ ghost use mathlib.Core.Path.{_≡_};
 ghost use mathlib.Core.List.{List, []};
 ghost use Prim.Native.Nat.{ℕ, _+_, _*_, _<_, _≤_};
 ghost use lib.ListN.{length, getD};
+ghost use Rattle.rules.specs.Limits.{rowCells};
 ghost use Rattle.rows.specs.Tree.{Tree, Answered, appended};
 
 // What a question found: the child, 0 for none; the last row that was compared, 0 for none; how many were compared.
@@ -45,7 +46,7 @@ pub fn ask(ws: &[u16], row: usize, c: u16) -> Asked
 
 // A new row behind the others, linked from its parent, or from the last of its siblings where there are some.
 pub(crate) fn append(ws: &mut [u16], rows: usize, parent: usize, last: usize, c: u16)
-    requires { ⌜ (6 * rows + 6 ≤ length (now ws)) × (parent < rows) × (last < rows) × (rows < 65536) ⌝ }
+    requires { ⌜ (rowCells * rows + rowCells ≤ length (now ws)) × (parent < rows) × (last < rows) × (rows < 65536) ⌝ }
     ensures { λ _. ⌜ now (ws .exit) ≡ appended (now (ws .entry)) rows parent last c ⌝ }
 {
     let number = rows as u16;

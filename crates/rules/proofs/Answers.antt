@@ -8,10 +8,9 @@ use native.Mathlib.Omega.{arith}
 use Rattle.rules.specs.declared.Refusal.{Refusal}
 use Rattle.rules.specs.declared.Refusal.the-variants.{SetEmpty, SetSize, TooManyKeywords, Length, Padding, Repeated, TooManyRows, TraceTooLong, WorkspaceShort, RowFileSize, RowNamesAnother, RowNumber, ByteFileSize, FarNumber, RowBufferShort, ByteBufferShort, AnswerShort}
 use Rattle.rules.specs.declared.Scanned.{Scanned}
-use Rattle.rules.specs.declared.Tabled.{Tabled}
+use Rattle.rules.specs.declared.Counted.{Counted}
 use Rattle.rules.specs.Limits.{answerSize}
-use Rattle.rules.specs.Refusals.{pass, refuse}
-use Rattle.rules.specs.Answers.{numberOf, placeOf, Told, toldRefusal, told, toldTable, lowFirst, answerBytes}
+use Rattle.rules.specs.Answers.{numberOf, placeOf, Told, told, toldCounted, lowFirst, answerBytes}
 
 -- what can be read back loses nothing
 pub read-back {ℓ κ} : {A : Type ℓ} {B : Type κ} (f : A → B) (g : B → A) → ((a : A) → g (f a) ≡ a) → (a b : A) → f a ≡ f b → a ≡ b
@@ -64,25 +63,6 @@ answerBy-refusal a f (RowBufferShort n) = refl
 answerBy-refusal a f ByteBufferShort = refl
 answerBy-refusal a f AnswerShort = refl
 
-refusal-injective : (r q : Refusal) → numberOf r ≡ numberOf q → placeOf r ≡ placeOf q → r ≡ q
-refusal-injective r q number place =
-    read-back (λ (r : Refusal). toldRefusal (numberOf r) (placeOf r))
-    (λ (a : Told). answerBy SetEmpty (λ r. r) (a .number) (a .place))
-    (answerBy-refusal SetEmpty (λ r. r))
-    r
-    q
-    (rw (number, place))
-
--- so a verdict says which refusal it was, and a refusal is no pass
-pub refused-same : (r q : Refusal) → refuse (numberOf r) (placeOf r) ≡ refuse (numberOf q) (placeOf q) → r ≡ q
-refused-same r q e =
-    let number : numberOf r ≡ numberOf q = cc in
-    let place : placeOf r ≡ placeOf q = cc in
-    refusal-injective r q number place
-
-pub passed-refused : {n p : ℕ} {C : Type 0} → pass ≡ refuse n p → C
-passed-refused e = let z : _≡_ {A = ℕ} 0 1 = cc in absurd (omega arith)
-
 pub told-injective : (r q : Scanned) → told r ≡ told q → r ≡ q
 unfolding answerBy
 told-injective = read-back told scannedBy back
@@ -97,16 +77,16 @@ told-injective = read-back told scannedBy back
     back (Scanned.Found t) = refl
     back (Scanned.Refused r) = answerBy-refusal (found (told (Scanned.Refused r))) Scanned.Refused r
 
-pub told-table-injective : (r q : Tabled) → toldTable r ≡ toldTable q → r ≡ q
+pub told-counted-injective : (r q : Counted) → toldCounted r ≡ toldCounted q → r ≡ q
 unfolding answerBy
-told-table-injective = read-back toldTable tabledBy back
+told-counted-injective = read-back toldCounted countedBy back
   where
-    tabledBy : Told → Tabled
-    tabledBy a = answerBy (Tabled.Rows (a .count)) Tabled.Refused (a .number) (a .place)
+    countedBy : Told → Counted
+    countedBy a = answerBy (Counted.Number (a .count)) Counted.Refused (a .number) (a .place)
 
-    back : (r : Tabled) → tabledBy (toldTable r) ≡ r
-    back (Tabled.Rows n) = refl
-    back (Tabled.Refused r) = answerBy-refusal (Tabled.Rows 0) Tabled.Refused r
+    back : (r : Counted) → countedBy (toldCounted r) ≡ r
+    back (Counted.Number n) = refl
+    back (Counted.Refused r) = answerBy-refusal (Counted.Number 0) Counted.Refused r
 
 -- The bytes of an answer.
 pub length-lowFirst : (n x : ℕ) → length (lowFirst n x) ≡ n

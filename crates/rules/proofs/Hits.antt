@@ -1,5 +1,5 @@
 -- The hit list is the audit's: each part of the trace up to an end gives the keywords that end it, longest first, and the
--- ends rise.
+-- ends rise; and an order that never holds both ways leaves no other list.
 use Prim.Native.Nat.{ℕ, _+_, _*_, _≤_, _<_}
 use native.Mathlib.Omega.{arith}
 use native.Mathlib.Nat.{not-suc-le-zero}
@@ -14,7 +14,7 @@ use Rattle.rules.specs.Hits.{Hit, endingAt, hitsAt, hitsAfter, hits, ene
 use Rattle.rules.specs.Audit.{Occurs, Before, Ordered, none, next}
 use Rattle.rules.specs.Sound.{Sound}
 use Rattle.rules.proofs.Strings.{same-true, eq-same, suffixes-append, suffixes-mem, keep-mem, mem-keep}
-use Rattle.rules.proofs.Orders.{flatMap-mem, mem-flatMap, ordered-weaken, ordered-append, ordered-map, ordered-flatMap, ordered-keep, ordered-once, falling-few}
+use Rattle.rules.proofs.Orders.{flatMap-mem, mem-flatMap, ordered-weaken, ordered-append, ordered-map, ordered-flatMap, ordered-keep, ordered-once, ordered-only, falling-few}
 
 -- the keywords that are s, and those that end u
 pub thatAre-mem : (s : List ℕ) (ks : List Keyword) {k : Keyword} → List·Memᴰ k (keywordsThatAre s ks) → List·Memᴰ k ks × (k .word ≡ s)
@@ -153,13 +153,30 @@ pub hits-ordered : {ks : List Keyword} → Sound ks → (t : List ℕ) → Order
 unfolding hits
 hits-ordered sound t = hitsAfter-ordered sound [] t
 
--- nothing stands before itself, so each hit stands once
-before-strict : (h : Hit) → Before h h → ⊥
-before-strict h (inl late) = omega arith
-before-strict h (inr both) = omega arith
+-- no two hits are each before the other: so each hit stands once, and no other list has the occurrences in that order
+before-apart : (g h : Hit) → Before g h → Before h g → ⊥
+before-apart g h (inl p) (inl q) = omega arith
+before-apart g h (inl p) (inr q) = omega arith
+before-apart g h (inr p) (inl q) = omega arith
+before-apart g h (inr p) (inr q) = omega arith
 
 pub hits-once : {ks : List Keyword} → Sound ks → (t : List ℕ) (d : Hit) (i j : ℕ) → i < j → j < length (hits ks t) → getD (hits ks t) i d ≡ getD (hits ks t) j d → ⊥
-hits-once sound t d i j h k e = ordered-once before-strict (hits-ordered sound t) d i j h k e
+hits-once sound t d i j h k e = ordered-once (λ h b. before-apart h h b b) (hits-ordered sound t) d i j h k e
+
+pub occurrences-only : {ks : List Keyword} {t : List ℕ} {k l : List Hit}
+    → Ordered Before k
+    → ((h : Hit) → List·Memᴰ h k ↔ Occurs ks t h)
+    → Ordered Before l
+    → ((h : Hit) → List·Memᴰ h l ↔ Occurs ks t h)
+    → k ≡ l
+occurrences-only o one p two =
+    ordered-only before-apart o p (λ h m. two h .1 (one h .0 m)) (λ h m. one h .1 (two h .0 m))
+
+pub hits-only : {ks : List Keyword} → Sound ks → (t : List ℕ) {l : List Hit}
+    → Ordered Before l
+    → ((h : Hit) → List·Memᴰ h l ↔ Occurs ks t h)
+    → l ≡ hits ks t
+hits-only sound t o exactly = occurrences-only o exactly (hits-ordered sound t) (hits-exact sound t)
 
 -- one part of the trace after another, and one byte more
 pub hits-append : (ks : List Keyword) (u a b : List ℕ) → hitsAfter ks u (a ++ b) ≡ hitsAfter ks u a ++ hitsAfter ks (u ++ a) b

@@ -3,8 +3,8 @@ pub mod Lists
 pub mod Strings
 pub mod Parts
 pub mod Verdicts
+pub mod Orders
 pub mod Sets
-pub mod Refused
 pub mod Bytes
 pub mod Rows
 pub mod PrefixRows
@@ -17,10 +17,8 @@ pub mod State
 pub mod Questions
 pub mod Dictionary
 pub mod Keys
-pub mod Orders
 pub mod Hits
 pub mod Buffers
-pub mod Pairs
 pub mod Audited
 pub mod KeyNumbers
 pub mod Least
@@ -30,8 +28,12 @@ pub mod Skips
 pub mod Distances
 pub mod Windows
 pub mod Tables
+pub mod Refused
 pub mod Runs
 pub mod Ahead
 pub mod Answers
+pub mod Counts
+pub mod Reports
+pub mod Fits
 pub mod Promises
 pub mod Cases

@@ -1,19 +1,17 @@
 -- The rows that a keyword adds are its prefixes as it is read, from one byte more than it shares with an earlier keyword
 -- on: byte by byte, a prefix is new exactly where no earlier word begins with it.
-use Prim.Native.Nat.{ℕ, zero, suc, _+_, _-_, _*_, _/_, _≤_, _<_}
-use native.Mathlib.Nat.{zero-add}
+use Prim.Native.Nat.{ℕ, zero, suc, _+_, _≤_, _<_}
 use native.Mathlib.Omega.{arith}
 use mathlib.Core.Path.{_≡_, refl, sym, _∙_, ap}
 use mathlib.Core.List.{List, [], _∷_, _++_, map, append-nil, append-assoc}
-use lib.ListN.{length, take, drop, getD, length-append, length-drop, drop-of-length-le, List·getD-append}
-use lib.Seq.{drop-nil, drop-append-le, getD-drop, getD-append-add}
+use lib.ListN.{length, take, drop, getD, length-append, length-drop, drop-of-length-le, take-append-drop, List·getD-append}
+use lib.Seq.{drop-nil, drop-cons, drop-append-le, getD-drop, getD-append-add}
 use Rattle.rules.specs.Strings.{begins, any, mostCommon}
-use Rattle.rules.specs.Limits.{recordSize}
-use Rattle.rules.specs.Sets.{Keyword, keywords, keywordsFrom, keywordAt, recordAt}
+use Rattle.rules.specs.Sets.{Keyword}
 use Rattle.rules.specs.Rows.{Way, readBy, prefixes, meet, meetWords, rowsOf}
+use Rattle.rules.specs.Sound.{noKeyword, nth}
 use Rattle.rules.proofs.Strings.{either}
 use Rattle.rules.proofs.Parts.{getD-map-within}
-use Rattle.rules.proofs.Sets.{keywordsFrom-append}
 use Rattle.rules.proofs.Rows.{by-snoc, any-weaken, begins-closed, prefixes-snoc, length-prefixes, meet-snoc, meet-old, meet-new, rowsOf-keeps, readBy-length}
 use Rattle.rules.proofs.Count.{mostCommon-le, mostCommon-snoc, mostCommon-whole, met}
 
@@ -74,20 +72,14 @@ new-row-at way ks ls k j h =
     ∙ ap (λ (n : ℕ). getD (prefixes w) n []) place
     ∙ prefixes-at w (j + m) (omega (arith, readBy-length way (k .word)))
 
--- the same for keyword i of a set
-keywords-around : (s : List ℕ) (i : ℕ) → i < length s / recordSize → (ls : List Keyword) × (keywords s ≡ keywordsFrom 0 i s ++ (keywordAt s i ∷ ls))
-unfolding keywords keywordsFrom keywordAt recordAt
-keywords-around s i h =
-    let rest : ℕ = length s / recordSize - suc i in
-    let whole : length s / recordSize ≡ i + suc rest = omega arith in
-    (keywordsFrom (suc i) rest (drop recordSize (drop (recordSize * i) s)), ap (λ (n : ℕ). keywordsFrom 0 n s) whole ∙ keywordsFrom-append 0 i (suc rest) s ∙ rw (zero-add i))
-
-pub set-row-at : (way : Way) (s : List ℕ) (i j : ℕ)
-    → i < length s / recordSize
-    → j + mostCommon (map (λ (l : Keyword). readBy way (l .word)) (keywordsFrom 0 i s)) (readBy way (keywordAt s i .word)) < length (keywordAt s i .word)
-    → getD (rowsOf way (keywords s)) (length (rowsOf way (keywordsFrom 0 i s)) + j) []
-    ≡ take (suc (j + mostCommon (map (λ (l : Keyword). readBy way (l .word)) (keywordsFrom 0 i s)) (readBy way (keywordAt s i .word)))) (readBy way (keywordAt s i .word))
-set-row-at way s i j h q =
-    let (ls, e) = keywords-around s i h in
-    ap (λ (ks : List Keyword). getD (rowsOf way ks) (length (rowsOf way (keywordsFrom 0 i s)) + j) []) e
-    ∙ new-row-at way (keywordsFrom 0 i s) ls (keywordAt s i) j q
+-- the same for the keyword at a place of a set
+pub set-row-at : (way : Way) (ks : List Keyword) (i j : ℕ)
+    → i < length ks
+    → j + mostCommon (map (λ (l : Keyword). readBy way (l .word)) (take i ks)) (readBy way (nth ks i .word)) < length (nth ks i .word)
+    → getD (rowsOf way ks) (length (rowsOf way (take i ks)) + j) []
+    ≡ take (suc (j + mostCommon (map (λ (l : Keyword). readBy way (l .word)) (take i ks)) (readBy way (nth ks i .word)))) (readBy way (nth ks i .word))
+set-row-at way ks i j h q =
+    let around : ks ≡ take i ks ++ (nth ks i ∷ drop (suc i) ks) =
+    sym (take-append-drop i ks) ∙ ap (λ (l : List Keyword). take i ks ++ l) (drop-cons ks i noKeyword h) in
+    ap (λ (l : List Keyword). getD (rowsOf way l) (length (rowsOf way (take i ks)) + j) []) around
+    ∙ new-row-at way (take i ks) (drop (suc i) ks) (nth ks i) j q

@@ -1,11 +1,12 @@
--- What stands in order stays so under append, map, flatMap and keep, and holds nothing twice: by recursion along the list.
+-- What stands in order stays so under append, map, flatMap and keep, holds nothing twice, and is the only such list of its
+-- members: by recursion along the list.
 use Prim.Native.Nat.{ℕ, zero, suc, _-_, _≤_, _<_}
 use native.Mathlib.Omega.{arith}
 use native.Mathlib.Nat.{not-suc-le-zero, le-of-suc-le-suc}
-use mathlib.Core.Path.{_≡_, refl}
-use mathlib.Core.Logic.{_⊎_, inl, inr}
+use mathlib.Core.Path.{_≡_, refl, sym, _∙_}
+use mathlib.Core.Logic.{_⊎_, inl, inr, ⊎-elim}
 use mathlib.Core.Bool.{Bool, true, false, cond}
-use mathlib.Core.List.{List, [], _∷_, _++_, map, flatMap, List·Memᴰ, List·Memᴰ·head, List·Memᴰ·tail, List·Memᴰ·not-nil, List·Memᴰ·append-cases, Memᴰ·append-left, Memᴰ·append-right, Memᴰ·of-map}
+use mathlib.Core.List.{List, [], _∷_, _++_, map, flatMap, List·Memᴰ, List·Memᴰ·head, List·Memᴰ·tail, List·Memᴰ·not-nil, List·Memᴰ·cases-cons, List·Memᴰ·append-cases, Memᴰ·append-left, Memᴰ·append-right, Memᴰ·of-map}
 use lib.ListN.{length, getD}
 use Rattle.rules.specs.Strings.{keep}
 use Rattle.rules.specs.Audit.{Ordered, none, next}
@@ -82,6 +83,10 @@ getD-mem [] d i h = absurd (not-suc-le-zero h)
 getD-mem (x ∷ l) d zero h = List·Memᴰ·head refl
 getD-mem (x ∷ l) d (suc i) h = List·Memᴰ·tail (getD-mem l d i (le-of-suc-le-suc h))
 
+pub mem-at : {A : Type 0} {a : A} {l : List A} → List·Memᴰ a l → (i : ℕ) × (i < length l) × ((d : A) → getD l i d ≡ a)
+mem-at (List·Memᴰ·head e) = (0, omega arith, λ d. sym e)
+mem-at (List·Memᴰ·tail m) = let w = mem-at m in (suc (w .0), omega (arith, w .1), w .2)
+
 pub ordered-at : {A : Type 0} {R : A → A → Type 0} {l : List A} → Ordered R l → (d : A) (i j : ℕ) → i < j → j < length l → R (getD l i d) (getD l j d)
 ordered-at none d i j h k = absurd (not-suc-le-zero k)
 ordered-at (next first rest) d i zero h k = absurd (not-suc-le-zero h)
@@ -91,6 +96,48 @@ ordered-at (next first rest) d (suc i) (suc j) h k = ordered-at rest d i j (le-o
 -- where nothing is before itself, nothing stands twice
 pub ordered-once : {A : Type 0} {R : A → A → Type 0} {l : List A} → ((a : A) → R a a → ⊥) → Ordered R l → (d : A) (i j : ℕ) → i < j → j < length l → getD l i d ≡ getD l j d → ⊥
 ordered-once {l = l} strict o d i j h k e = strict (getD l j d) (rw e at (ordered-at o d i j h k))
+
+-- where no two are each before the other, a list is the only one in that order with its members: each of two heads is a
+-- member of the other list, so they are the same, or each is before the other
+module _ {A : Type 0} {R : A → A → Type 0} (apart : (a b : A) → R a b → R b a → ⊥) where
+  one-head : {a b : A} {k l : List A}
+      → ((c : A) → List·Memᴰ c k → R a c)
+      → ((c : A) → List·Memᴰ c l → R b c)
+      → List·Memᴰ a (b ∷ l)
+      → List·Memᴰ b (a ∷ k)
+      → a ≡ b
+  one-head {a} {b} first other m m′ =
+      ⊎-elim (λ (e : a ≡ b). e)
+      (λ n. ⊎-elim (λ (e : b ≡ a). sym e) (λ n′. absurd (apart a b (first b n′) (other a n))) (List·Memᴰ·cases-cons m′))
+      (List·Memᴰ·cases-cons m)
+
+  -- what is behind the head is no head
+  behind-head : {a b : A} {k l : List A}
+      → a ≡ b
+      → ((c : A) → List·Memᴰ c k → R a c)
+      → ((c : A) → List·Memᴰ c (a ∷ k) → List·Memᴰ c (b ∷ l))
+      → (c : A)
+      → List·Memᴰ c k
+      → List·Memᴰ c l
+  behind-head {a} {b} e first there c m =
+      ⊎-elim (λ (q : c ≡ b). let itself : R a a = rw (q ∙ sym e) at (first c m) in absurd (apart a a itself itself)) (λ m′. m′)
+      (List·Memᴰ·cases-cons (there c (List·Memᴰ·tail m)))
+
+  pub ordered-only : {k l : List A}
+      → Ordered R k
+      → Ordered R l
+      → ((a : A) → List·Memᴰ a k → List·Memᴰ a l)
+      → ((a : A) → List·Memᴰ a l → List·Memᴰ a k)
+      → k ≡ l
+  ordered-only none none there back = refl
+  ordered-only none (next {a = b} first rest) there back =
+      absurd (List·Memᴰ·not-nil (back b (List·Memᴰ·head refl)))
+  ordered-only (next {a = a} first rest) none there back =
+      absurd (List·Memᴰ·not-nil (there a (List·Memᴰ·head refl)))
+  ordered-only (next {a = a} {l = k} first rest) (next {a = b} {l = l} other more) there back =
+      let head : a ≡ b = one-head first other (there a (List·Memᴰ·head refl)) (back b (List·Memᴰ·head refl)) in
+      let tail : k ≡ l = ordered-only rest more (behind-head head first there) (behind-head (sym head) other back) in
+      rw (head, tail)
 
 -- where a measure falls and stays from 1 to n, there are no more than n
 pub falling-few : {A : Type 0} (f : A → ℕ) (n : ℕ) {l : List A}

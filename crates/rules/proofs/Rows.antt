@@ -11,7 +11,7 @@ use lib.Dec.{eqb, ltb}
 use native.Mathlib.Nat.{zero-add}
 use native.Mathlib.Omega.{arith}
 use borrow.Author.Tests.{eqb-true, eqb-false, ltb-true, ltb-false}
-use Rattle.rules.specs.Limits.{longestWord, mostRows}
+use Rattle.rules.specs.Limits.{longestWord, mostKeywords, mostRows}
 use Rattle.rules.specs.Strings.{same, begins, any}
 use Rattle.rules.specs.Sets.{Keyword}
 use Rattle.rules.specs.Rows.{Way, forward, backward, readBy, starts, prefixes, meet, meetWords, rowsOf, placeFrom, rowOf, parent, Rowed}
@@ -500,5 +500,11 @@ total-short [] short = omega arith
 total-short (k ∷ ks) short =
     omega (arith, short k (List·Memᴰ·head refl), total-short ks (λ l m. short l (List·Memᴰ·tail m)))
 
+pub rows-short : (way : Way) (ks : List Keyword)
+    → ((k : Keyword) → List·Memᴰ k ks → length (k .word) ≤ longestWord)
+    → length ks ≤ mostKeywords
+    → length (rowsOf way ks) ≤ mostRows
+rows-short way ks short few = omega (arith, rows-bound way ks, total-short ks short)
+
 pub rows-few : (way : Way) (ks : List Keyword) → Sound ks → length (rowsOf way ks) ≤ mostRows
-rows-few way ks sound = omega (arith, rows-bound way ks, total-short ks (sound .short), sound .few)
+rows-few way ks sound = rows-short way ks (sound .short) (sound .few)

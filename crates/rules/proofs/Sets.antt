@@ -11,14 +11,14 @@ use native.Mathlib.Nat.{zero-add, add-zero, suc-add}
 use native.Mathlib.Numerals.{add-one}
 use native.Mathlib.Omega.{arith}
 use borrow.Author.Tests.{ltb-false, eqb-true, eqb-false, not-false}
-use Rattle.rules.specs.Limits.{recordSize, longestWord, mostKeywords, mostRows, opcodes}
+use Rattle.rules.specs.Limits.{recordSize, longestWord, mostKeywords, opcodes}
 use Rattle.rules.specs.Strings.{same, any}
 use Rattle.rules.specs.Sets.{Keyword, keywordOf, keywordsFrom, keywords, recordAt, keywordAt, isKeyword}
-use Rattle.rules.specs.Rows.{Way, rowsOf}
-use Rattle.rules.specs.Refusals.{Verdict, pass, refuse, orElse, recordVerdict, recordVerdicts, fileVerdict, rowsVerdict, setVerdict}
+use Rattle.rules.specs.Refusals.{Verdict, pass, refuse, orElse, recordVerdict, recordVerdicts, fileVerdict}
 use Rattle.rules.specs.Audit.{Ordered, none, next}
 use Rattle.rules.specs.Sound.{Sound}
 use Rattle.rules.proofs.Strings.{never, any-mem, eq-same, or-fails-left, or-fails-right}
+use Rattle.rules.proofs.Orders.{mem-at}
 use Rattle.rules.proofs.Verdicts.{orElse-pass, pass-orElse, refuse-orElse, orElse-assoc, orElse-right, refuseIf-pass}
 
 -- the records behind m more
@@ -130,7 +130,7 @@ record-passed i ks r p =
       new = refuseIf-pass _ _ (b .1);
     }
 
--- What a file that passed is, and a set whose rows passed too.
+-- What a file that passed is.
 pub record FilePassed (s : List ℕ) : Type 0 where
   pub filled : 1 ≤ length s
   pub whole : length s % recordSize ≡ 0
@@ -152,16 +152,6 @@ file-passed s p =
       records = c .1;
     }
 
-pub record SetPassed (way : Way) (s : List ℕ) : Type 0 where
-  pub file : fileVerdict s ≡ pass
-  pub rows : length (rowsOf way (keywords s)) ≤ mostRows
-
-pub set-passed : (way : Way) (s : List ℕ) → setVerdict way s ≡ pass → SetPassed way s
-unfolding setVerdict rowsVerdict
-set-passed way s p =
-    let a = orElse-pass _ _ p in
-    record { file = a .0; rows = ltb-false mostRows (length (rowsOf way (keywords s))) (refuseIf-pass _ _ (a .1)) }
-
 pub length-keywords : (s : List ℕ) → length (keywords s) ≡ length s / recordSize
 unfolding keywords
 length-keywords s = length-keywordsFrom 0 (length s / recordSize) s
@@ -171,19 +161,11 @@ unfolding keywords keywordAt
 getD-keywords s d i h = getD-keywordsFrom 0 (length s / recordSize) s d i h ∙ rw zero-add
 
 -- a keyword of the set is some record's
-mem-getD : {k : Keyword} {ks : List Keyword} → List·Memᴰ k ks → (i : ℕ) × (i < length ks) × (getD ks i k ≡ k)
-mem-getD (List·Memᴰ·head e) = (0, omega arith, sym e)
-mem-getD (List·Memᴰ·tail m) = let w = mem-getD m in (suc (w .0), omega (arith, w .1), w .2)
-
 pub keywords-mem : {k : Keyword} (s : List ℕ) → List·Memᴰ k (keywords s) → (i : ℕ) × (i < length s / recordSize) × (k ≡ keywordAt s i)
 keywords-mem {k} s m =
-    let w = mem-getD m in
+    let w = mem-at m in
     let within : w .0 < length s / recordSize = omega (arith, w .1, length-keywords s) in
-    (w .0, within, sym (w .2) ∙ getD-keywords s k (w .0) within)
-
--- a file that passed has nothing beside its keywords' records
-pub file-length : {s : List ℕ} → FilePassed s → length s ≡ recordSize * length (keywords s)
-file-length {s = s} p = omega (arith, p .whole, length-keywords s)
+    (w .0, within, sym (w .2 k) ∙ getD-keywords s k (w .0) within)
 
 pub length-recordAt : (s : List ℕ) (i : ℕ) → i < length s / recordSize → length (recordAt s i) ≡ recordSize
 unfolding recordAt
@@ -214,6 +196,18 @@ apart (suc n) i ks s p =
           (List·Memᴰ·cases-cons m′),
     )
 
+-- Numbers rise with the records.
+rising : (i n : ℕ) (s : List ℕ)
+    → Ordered (λ (k l : Keyword). k .number < l .number) (keywordsFrom i n s) × ((k : Keyword) → List·Memᴰ k (keywordsFrom i n s) → i ≤ k .number)
+unfolding keywordsFrom keywordOf
+rising i zero s = (none, λ k m. absurd (List·Memᴰ·not-nil m))
+rising i (suc n) s =
+    let below = rising (suc i) n (drop recordSize s) in (
+      next {a = keywordOf i (take recordSize s)} (λ l m. omega (arith, below .1 l m)) (below .0),
+      λ k m.
+          ⊎-elim (λ e. rw e (omega arith)) (λ m′. omega (arith, below .1 k m′)) (List·Memᴰ·cases-cons m),
+    )
+
 -- Bytes: a part of the set has no others, and a place beyond its end reads as 0.
 mem-take : {b : ℕ} (n : ℕ) (s : List ℕ) → List·Memᴰ b (take n s) → List·Memᴰ b s
 mem-take n s m = rw (take-append-drop n s) at (Memᴰ·append-left (drop n s) m)
@@ -234,28 +228,39 @@ pub length-word : (i : ℕ) (r : List ℕ) → length r ≡ recordSize → getD 
 unfolding keywordOf
 length-word i r e h = simp (length-take, length-drop) (omega arith)
 
+module _ (s : List ℕ) (v : fileVerdict s ≡ pass) where
+  good : (i : ℕ) → i < length s / recordSize → RecordPassed i (keywordsFrom 0 i s) (recordAt s i)
+  good i h =
+      record-passed i (keywordsFrom 0 i s) (recordAt s i) (records-passed i (length s / recordSize) s h (file-passed s v .records))
+
+  measured : (i : ℕ) → i < length s / recordSize → length (keywordAt s i .word) ≡ getD (recordAt s i) 0 0
+  unfolding keywordAt
+  measured i h = length-word i (recordAt s i) (length-recordAt s i h) (good i h .short)
+
+  -- few keywords, each short, whatever the numbers of the set are
+  pub file-few : length (keywords s) ≤ mostKeywords
+  file-few = omega (arith, file-passed s v .few, length-keywords s)
+
+  pub file-short : (k : Keyword) → List·Memᴰ k (keywords s) → length (k .word) ≤ longestWord
+  file-short = keywords-each (λ (k : Keyword). length (k .word) ≤ longestWord) s (λ i h. rw (measured i h) (good i h .short))
+
 pub file-sound : (s : List ℕ) → ((b : ℕ) → List·Memᴰ b s → b < opcodes) → fileVerdict s ≡ pass → Sound (keywords s)
 unfolding keywordOf keywordAt recordAt keywords
 file-sound s small v =
     record {
       some = omega (arith, p .whole, p .filled, length-keywords s);
-      few = omega (arith, p .few, length-keywords s);
-      filled = keywords-each _ s (λ i h. rw (measured i h) (good i h .filled));
-      short = keywords-each _ s (λ i h. rw (measured i h) (good i h .short));
+      few = file-few s v;
+      filled = keywords-each _ s (λ i h. rw (measured s v i h) (good s v i h .filled));
+      short = file-short s v;
       bytes = keywords-each _ s (λ i h b m. smallAt i b (mem-drop 1 (recordAt s i) (mem-take (getD (recordAt s i) 0 0) (drop 1 (recordAt s i)) m)));
       distinct = apart (length s / recordSize) 0 [] s (p .records) .0;
-      numbered = λ d i h. ap (λ (k : Keyword). k .number) (getD-keywords s d i (omega (arith, length-keywords s)));
+      numbered = rising 0 (length s / recordSize) s .0;
+      slots = keywords-each _ s (λ i h. omega (arith, p .few));
       figures = keywords-each _ s (λ i h. omega (arith, below-getD (recordAt s i) 16 (smallAt i), below-getD (recordAt s i) 17 (smallAt i)));
     }
   where
     p : FilePassed s
     p = file-passed s v
-
-    good : (i : ℕ) → i < length s / recordSize → RecordPassed i (keywordsFrom 0 i s) (recordAt s i)
-    good i h = record-passed i (keywordsFrom 0 i s) (recordAt s i) (records-passed i (length s / recordSize) s h (p .records))
-
-    measured : (i : ℕ) → i < length s / recordSize → length (keywordAt s i .word) ≡ getD (recordAt s i) 0 0
-    measured i h = length-word i (recordAt s i) (length-recordAt s i h) (good i h .short)
 
     smallAt : (i b : ℕ) → List·Memᴰ b (recordAt s i) → b < opcodes
     smallAt i b m = small b (mem-drop (recordSize * i) s (mem-take recordSize (drop (recordSize * i) s) m))

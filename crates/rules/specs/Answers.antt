@@ -4,7 +4,7 @@ use mathlib.Core.List.{List, [], _∷_, _++_}
 use Rattle.rules.specs.declared.Refusal.{Refusal}
 use Rattle.rules.specs.declared.Refusal.the-variants.{SetEmpty, SetSize, TooManyKeywords, Length, Padding, Repeated, TooManyRows, TraceTooLong, WorkspaceShort, RowFileSize, RowNamesAnother, RowNumber, ByteFileSize, FarNumber, RowBufferShort, ByteBufferShort, AnswerShort}
 use Rattle.rules.specs.declared.Scanned.{Scanned}
-use Rattle.rules.specs.declared.Tabled.{Tabled}
+use Rattle.rules.specs.declared.Counted.{Counted}
 
 -- document 01's table of refusals: the number, and the place or 0 where none is named
 abbrev pub numberAndPlace : Refusal → ℕ × ℕ
@@ -50,14 +50,14 @@ told (Scanned.Found t) =
     record { number = 0; place = 0; count = t .count; questions = t .questions; energy = t .energy }
 told (Scanned.Refused r) = toldRefusal (numberOf r) (placeOf r)
 
--- making and the check answer the number of rows: it stands where a scan has its count
-abbrev pub toldRows : ℕ → Told
-toldRows n = record { number = 0; place = 0; count = n; questions = 0; energy = 0 }
+-- a number alone, of keywords or of rows: it stands where a scan has its count
+abbrev pub toldCount : ℕ → Told
+toldCount n = record { number = 0; place = 0; count = n; questions = 0; energy = 0 }
 
--- what making and the check answer
-abbrev pub toldTable : Tabled → Told
-toldTable (Tabled.Rows n) = toldRows n
-toldTable (Tabled.Refused r) = toldRefusal (numberOf r) (placeOf r)
+-- what tests answer, and making and the check
+abbrev pub toldCounted : Counted → Told
+toldCounted (Counted.Number n) = toldCount n
+toldCounted (Counted.Refused r) = toldRefusal (numberOf r) (placeOf r)
 
 -- the n low bytes of x, the lowest first
 unfoldable pub lowFirst : ℕ → ℕ → List ℕ

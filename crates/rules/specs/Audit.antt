@@ -1,16 +1,18 @@
 -- What a reader may ask of the answers, said apart from how they are defined: of the hit list, which pairs are occurrences and
--- which of two comes first; of a hit buffer, that it holds that list; of a table, that it is safe. Laws hold the definitions to it.
-use Prim.Native.Nat.{ℕ, _+_, _*_, _/_, _≤_, _<_, min}
+-- which of two comes first; of a scan, that its answer and its hit buffer come from that list; of a table, that it is safe.
+-- Laws hold the definitions to it.
+use Prim.Native.Nat.{ℕ, _+_, _*_, _≤_, _<_}
 use mathlib.Core.Path.{_≡_}
-use mathlib.Core.Logic.{_⊎_}
+use mathlib.Core.Logic.{_⊎_, _↔_}
 use mathlib.Core.List.{List, [], _∷_, _++_, List·Memᴰ}
 use lib.ListN.{length, getD, take, drop}
 use Rattle.rules.specs.Limits.{rowRecord, depths, opcodes, byteFileSize}
-use Rattle.rules.specs.Sets.{Keyword, keywords, keywordAt}
+use Rattle.rules.specs.Sets.{Keyword}
 use Rattle.rules.specs.Rows.{backward, rowsOf}
-use Rattle.rules.specs.Hits.{Hit}
+use Rattle.rules.specs.Hits.{Hit, energy, hitBuffer}
 use Rattle.rules.specs.Skips.{inner, edge, far, suffixRows, named}
 use Rattle.rules.specs.Runs.{innerIn, edgeIn, farIn}
+use Rattle.rules.specs.Answers.{Told}
 
 -- a keyword of the set stands in the trace t, and its last byte is the end'th
 pub record Occurs (ks : List Keyword) (t : List ℕ) (h : Hit) : Type 0 where
@@ -30,20 +32,20 @@ pub data Ordered {A : Type 0} (R : A → A → Type 0) : List A → Type 0 where
   none : Ordered R []
   next : {a : A} {l : List A} → ((b : A) → List·Memᴰ b l → R a b) → Ordered R l → Ordered R (a ∷ l)
 
--- pair i of a hit buffer, as a hit of the set s
-abbrev pub pairAt : List ℕ → List ℕ → ℕ → Hit
-pairAt s hs i = record { end = getD hs (2 * i) 0; keyword = keywordAt s (getD hs (2 * i + 1) 0) }
-
--- A hit buffer with the numbers hs before a scan of the trace t and hs′ after it, where so many hits were counted.
-pub record Audited (s t hs : List ℕ) (count : ℕ) (hs′ : List ℕ) : Type 0 where
-  -- each pair written is an occurrence
-  pub occurs : (i : ℕ) → i < count → i < length hs / 2 → Occurs (keywords s) t (pairAt s hs′ i)
-  -- where there is room, each occurrence is written
-  pub listed : (h : Hit) → Occurs (keywords s) t h → count ≤ length hs / 2 → (i : ℕ) × (i < count) × (pairAt s hs′ i ≡ h)
+-- For a reader who doubts `hits`: a scan of the trace t answered a, and its hit buffer held hs before and hs′ after. All of it
+-- comes from one list of the occurrences, each of them and nothing else, in order. There is no second such list (the law
+-- `occurrences-only`), so a buffer however short, without room for one pair too, leaves none of these numbers open.
+pub record Audited (ks : List Keyword) (t hs : List ℕ) (a : Told) (hs′ : List ℕ) : Type 0 where
+  pub found : List Hit
   -- in order, and so none twice
-  pub ordered : (i j : ℕ) → i < j → j < count → j < length hs / 2 → Before (pairAt s hs′ i) (pairAt s hs′ j)
-  -- and what is behind the pairs is as it was
-  pub rest : drop (2 * min count (length hs / 2)) hs′ ≡ drop (2 * min count (length hs / 2)) hs
+  pub ordered : Ordered Before found
+  -- each is an occurrence, and each occurrence is one of them
+  pub exactly : (h : Hit) → List·Memᴰ h found ↔ Occurs ks t h
+  -- the answer counts them all, and sums the energy of all
+  pub counted : a .count ≡ length found
+  pub charged : a .energy ≡ energy found
+  -- the buffer receives the first pairs that fit, none where it has no room for one, and the rest is unchanged
+  pub listed : hs′ ≡ hitBuffer found hs
 
 -- a number that a file may hold
 pub record Allowed (largest n : ℕ) : Type 0 where

@@ -11,8 +11,9 @@ use Rattle.rules.specs.Rows.{Way, forward, backward, rowsOf, cells}
 use Rattle.rules.specs.Hits.{pairs, hits, over, hitBuffer}
 use Rattle.rules.specs.Skips.{inner, edge, far, suffixRows, named, rowFile, byteFile}
 use Rattle.rules.specs.Runs.{runHits}
+use Rattle.rules.specs.Refusals.{orElse, tableVerdict}
 use Rattle.rules.specs.Answers.{Told, toldRefusal, lowFirst}
-use Rattle.rules.specs.Promises.{answerOr, kept, forwardTold, forwardVerdict, backwardTold, backwardVerdict, rowsTold, checkVerdict}
+use Rattle.rules.specs.Promises.{answerOr, kept, forwardTold, forwardVerdict, backwardTold, backwardEntry, rowsTold, tableEntry}
 
 -- A claim. Sets, traces, files and hit pairs are the numbers as they lie in files and buffers.
 pub data Case : Type 0 where
@@ -68,14 +69,16 @@ holds (edgeIs s v n) = eqb (edge (keywords s) v) n
 holds (farIs s a z n) = eqb (far (keywords s) a z) n
 holds (forwardScan s t answer listed) =
     let v = forwardVerdict s t (roomFor forward s) in
-    sameTold (answerOr (forwardTold s t) v) answer
+    sameTold (answerOr (forwardTold (keywords s) t) v) answer
     && same (kept noHits (hitBuffer (hits (keywords s) t) noHits) v) (over listed noHits)
 holds (backwardScan s t rowf bytef answer listed) =
-    let v = backwardVerdict s t rowf bytef (roomFor backward s) in
-    sameTold (answerOr (backwardTold s t rowf bytef) v) answer
+    let v = orElse (backwardEntry s t (roomFor backward s)) (tableVerdict (keywords s) rowf bytef) in
+    sameTold (answerOr (backwardTold (keywords s) t rowf bytef) v) answer
     && same (kept noHits (hitBuffer (hits (keywords s) t) noHits) v) (over listed noHits)
     && same (pairs (runHits (keywords s) rowf bytef t)) listed
-holds (check s rowf bytef answer) = sameTold (answerOr (rowsTold s) (checkVerdict s rowf bytef (roomFor backward s))) answer
+holds (check s rowf bytef answer) =
+    let v = orElse (tableEntry s (roomFor backward s)) (tableVerdict (keywords s) rowf bytef) in
+    sameTold (answerOr (rowsTold (keywords s)) v) answer
 
 unfoldable pub allHold : List Case → Bool
 allHold [] = true

@@ -6,7 +6,7 @@ use lib.ListN.{length, take, drop, getD}
 use lib.Dec.{eqb, ltb}
 use Rattle.rules.specs.Limits.{recordSize, longestWord, mostKeywords, mostRows, longestTrace, rowCells, rowRecord, depths, byteFileSize, answerSize}
 use Rattle.rules.specs.Strings.{same, any}
-use Rattle.rules.specs.Sets.{Keyword, keywordOf, keywords, isKeyword}
+use Rattle.rules.specs.Sets.{Keyword, keywordOf, isKeyword}
 use Rattle.rules.specs.Rows.{Way, backward, rowsOf}
 use Rattle.rules.specs.Skips.{inner, edge, far, suffixRows, named}
 
@@ -46,27 +46,23 @@ fileVerdict s =
     (orElse (refuseIf (ltb mostKeywords (length s / recordSize)) 3 0)
     (recordVerdicts (length s / recordSize) 0 [] s)))
 
--- 7: the rows, read one way
-unfoldable pub rowsVerdict : Way → List ℕ → Verdict
-rowsVerdict way s = refuseIf (ltb mostRows (length (rowsOf way (keywords s)))) 7 0
-
--- 1 to 7: a set that is read one way
-unfoldable pub setVerdict : Way → List ℕ → Verdict
-setVerdict way s = orElse (fileVerdict s) (rowsVerdict way s)
+-- 7: the rows of the keywords ks, read one way
+unfoldable pub rowsVerdict : Way → List Keyword → Verdict
+rowsVerdict way ks = refuseIf (ltb mostRows (length (rowsOf way ks))) 7 0
 
 -- 8: a trace of n bytes
 unfoldable pub traceVerdict : ℕ → Verdict
 traceVerdict n = refuseIf (ltb longestTrace n) 8 0
 
 -- 9: a workspace with room for so many numbers
-unfoldable pub workspaceVerdict : Way → List ℕ → ℕ → Verdict
-workspaceVerdict way s room =
-    let rows = length (rowsOf way (keywords s)) in
+unfoldable pub workspaceVerdict : Way → List Keyword → ℕ → Verdict
+workspaceVerdict way ks room =
+    let rows = length (rowsOf way ks) in
     refuseIf (ltb room (rowCells * rows)) 9 rows
 
--- 1 to 9: what a scan of a trace of n bytes begins with
-abbrev pub entryVerdict : Way → List ℕ → ℕ → ℕ → Verdict
-entryVerdict way s n room = orElse (setVerdict way s) (orElse (traceVerdict n) (workspaceVerdict way s room))
+-- 7 to 9: what a scan of a trace of n bytes begins with, once the set's own tests have passed
+abbrev pub entryVerdict : Way → List Keyword → ℕ → ℕ → Verdict
+entryVerdict way ks n room = orElse (rowsVerdict way ks) (orElse (traceVerdict n) (workspaceVerdict way ks room))
 
 -- a number of a file: 0, or above the largest
 unfoldable pub faulty : ℕ → ℕ → Bool

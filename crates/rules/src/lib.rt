@@ -9,17 +9,17 @@ pub const ROWS: usize = 961;
 
 pub const TRACE: usize = 1048576;
 
-// The bytes of a keyword's record, the numbers of a row in a workspace, and of a workspace that is enough for every set.
-pub const RECORD: usize = 18;
-
+// The numbers of a row in a workspace, and of a workspace that is enough for every set.
 pub const CELLS: usize = 6;
 
 pub const WORKSPACE: usize = 5766;
 
-// The bytes of a row's record in a row file, the numbers of a byte's record in a byte file, and the bytes of that file.
+// The bytes of a row's record in a row file; the numbers of a byte's record in a byte file, the bytes that it speaks of, and its size.
 pub const ROW: usize = 18;
 
 pub const DEPTHS: usize = 16;
+
+pub const OPCODES: usize = 256;
 
 pub const BYTES: usize = 4096;
 
@@ -66,8 +66,9 @@ pub enum Scanned {
     Refused(Refusal),
 }
 
-// The answer of making and of the check: how many rows.
-pub enum Tabled {
-    Rows(u16),
+// An answer that is one number. The tests of a set answer how many keywords it has; the tests behind them, making and the check
+// answer how many rows.
+pub enum Counted {
+    Number(u16),
     Refused(Refusal),
 }

@@ -6,14 +6,14 @@ use mathlib.Core.List.{List}
 use lib.ListN.{length, getD}
 use lib.Dec.{eqb, ltb}
 use borrow.Author.Tests.{eq-eqb, ne-eqb, lt-ltb, le-ltb}
-use Rattle.rules.specs.Limits.{longestWord}
+use Rattle.rules.specs.Limits.{recordSize, longestWord}
 use Rattle.rules.specs.Sets.{Keyword, keywordAt, recordAt, isKeyword}
 use Rattle.rules.specs.Refusals.{pass, refuse, refuseIf, orElse, recordVerdict}
 use Rattle.rules.proofs.Strings.{or-right}
-use Rattle.sets.specs.Words.{paddingFault}
+use Rattle.sets.specs.Reading.{paddingFault}
 use Rattle.sets.proofs.Records.{length-at}
 
-module _ (s : List ℕ) (i n : ℕ) (ks : List Keyword) (whole : 18 * i + 18 ≤ length s) (stated : n ≡ getD s (18 * i) 0) where
+module _ (s : List ℕ) (i n : ℕ) (ks : List Keyword) (whole : recordSize * i + recordSize ≤ length s) (stated : n ≡ getD s (recordSize * i) 0) where
   tests : recordVerdict i ks (recordAt s i)
       ≡ orElse (refuseIf (eqb n 0 || ltb longestWord n) 4 i)
       (orElse (refuseIf (paddingFault s i n) 5 i) (refuseIf (isKeyword ks (keywordAt s i .word)) 6 i))

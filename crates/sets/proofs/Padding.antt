@@ -10,10 +10,10 @@ use lib.ListN.{getD, take, drop}
 use lib.Seq.{drop-cons}
 use lib.Dec.{eqb}
 use borrow.Author.Tests.{eq-eqb, ne-eqb}
-use Rattle.rules.specs.Limits.{longestWord}
+use Rattle.rules.specs.Limits.{recordSize, longestWord}
 use Rattle.rules.specs.Strings.{any}
 use Rattle.rules.specs.Sets.{recordAt}
-use Rattle.sets.specs.Words.{Stated, paddingFault}
+use Rattle.sets.specs.Reading.{Stated, paddingFault}
 use Rattle.sets.proofs.Records.{record-at, record-length}
 
 -- some byte of the record r from place k on is not zero
@@ -46,18 +46,18 @@ module _ {s : List ℕ} {i n k : ℕ} (so : Padded s i n k) where
       sym (so .known ∙ rw all)
 
   module _ (h : k < suc longestWord) where
-    first : drop k (recordAt s i) ≡ getD s (18 * i + k) 0 ∷ drop (suc k) (recordAt s i)
+    first : drop k (recordAt s i) ≡ getD s (recordSize * i + k) 0 ∷ drop (suc k) (recordAt s i)
     first =
         drop-cons (recordAt s i) k 0 (omega (arith, record-length s i (so .stated .whole)))
         ∙ rw (record-at s i (so .stated .whole) k (omega arith))
 
-    pub padded-stop : (getD s (18 * i + k) 0 ≡ 0 → ⊥) → true ≡ paddingFault s i n
+    pub padded-stop : (getD s (recordSize * i + k) 0 ≡ 0 → ⊥) → true ≡ paddingFault s i n
     unfolding faultFrom any
     padded-stop f =
         let some : suc longestWord - k ≡ suc (longestWord - k) = omega arith in
         sym (so .known ∙ rw (first, some, ne-eqb _ _ f))
 
-    pub padded-more : getD s (18 * i + k) 0 ≡ 0 → Padded s i n (k + 1)
+    pub padded-more : getD s (recordSize * i + k) 0 ≡ 0 → Padded s i n (k + 1)
     unfolding faultFrom any
     padded-more e =
         let some : suc longestWord - k ≡ suc (suc longestWord - suc k) = omega arith in

@@ -1,2 +1,2 @@
--- What the contracts of this crate say beyond `rules`.
-pub mod Words
+-- What the contracts of this crate say beyond `rules` and `words`.
+pub mod Reading

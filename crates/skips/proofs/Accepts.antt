@@ -1,46 +1,54 @@
--- The check answers the number of rows exactly where the entry tests pass and the table is safe: a refusal counts no rows, and
--- every set has row 0.
+-- The check answers with no refusal exactly where the tests before it pass and the table is safe: no refusal has the number 0.
 use Prim.Native.Nat.{ℕ}
-use native.Mathlib.Omega.{arith}
-use mathlib.Core.Path.{_≡_, sym, _∙_, ap}
-use mathlib.Core.Logic.{_↔_, ⊎-elim}
+use mathlib.Core.Path.{_≡_, refl, ap, _∙_, sym}
+use mathlib.Core.Logic.{_↔_}
 use mathlib.Core.List.{List}
 use lib.ListN.{length}
-use Rattle.rules.specs.Sets.{keywords}
-use Rattle.rules.specs.Rows.{backward, rowsOf}
-use Rattle.rules.specs.Refusals.{Verdict, pass, tableVerdict}
-use Rattle.rules.specs.Answers.{Told, toldRefusal}
-use Rattle.rules.specs.Promises.{onPass, answerOr, rowsTold, tableEntry, checkVerdict, Check}
+use Rattle.rules.specs.Sets.{Keyword, keywords}
+use Rattle.rules.specs.Rows.{backward}
+use Rattle.rules.specs.Refusals.{Verdict, pass, orElse, tableVerdict}
+use Rattle.rules.specs.Answers.{Told}
+use Rattle.rules.specs.Promises.{rowsTold, roomVerdict, tableEntry, Check, CheckOf}
 use Rattle.rules.specs.Audit.{Accepted}
-use Rattle.rules.proofs.Verdicts.{verdict-cases, orElse-exactly}
-use Rattle.rules.proofs.Rows.{rowed-rows}
+use Rattle.rules.proofs.Verdicts.{orElse-exactly}
+use Rattle.rules.proofs.Refused.{Numbered, numbered-both, numbered-file, numbered-size, numbered-workspace, numbered-table, answered-passed}
+use Rattle.rules.proofs.Counts.{answer-passed}
 use Rattle.rules.proofs.Tables.{accepted-exactly}
 
--- an answer of making or of the check is the number of rows exactly where nothing is refused
-pub answered-rows : (s : List ℕ) (v : Verdict) → (answerOr (rowsTold s) v ≡ rowsTold s) ↔ (v ≡ pass)
-unfolding answerOr onPass rowsTold
-answered-rows s v = (
-  λ e.
-      ⊎-elim (λ p. p)
-      (λ w.
-      let refused : toldRefusal (w .0) (w .1) ≡ rowsTold s = rw (w .2) at e in
-      let none : _≡_ {A = ℕ} 0 (length (rowsOf backward (keywords s))) = ap (λ (t : Told). t .count) refused in
-      absurd (omega (arith, rowed-rows backward (keywords s) .some)))
-      (verdict-cases v),
-  λ p. rw p,
-)
+pub rows-told : (ks : List Keyword) → rowsTold ks .number ≡ 0
+unfolding rowsTold
+rows-told ks = refl
 
--- The check accepts exactly the safe tables.
-pub check-accepts : {s rowf bytef ws : List ℕ} {answer : Told} {ws′ : List ℕ} → Check s rowf bytef ws answer ws′
-    → (answer ≡ rowsTold s) ↔ ((tableEntry s (length ws) ≡ pass) × Accepted (keywords s) rowf bytef)
-unfolding checkVerdict
-check-accepts {s} {rowf} {bytef} {ws} h = (
-  λ e.
-      let passed : checkVerdict s rowf bytef (length ws) ≡ pass = answered-rows s (checkVerdict s rowf bytef (length ws)) .0 (sym (h .answered) ∙ e) in
-      let both = orElse-exactly (tableEntry s (length ws)) (tableVerdict (keywords s) rowf bytef) .0 passed in
-      (both .0, accepted-exactly (keywords s) rowf bytef .0 (both .1)),
-  λ k.
-      let passed : checkVerdict s rowf bytef (length ws) ≡ pass =
-      orElse-exactly (tableEntry s (length ws)) (tableVerdict (keywords s) rowf bytef) .1 (k .0, accepted-exactly (keywords s) rowf bytef .1 (k .1)) in
-      h .answered ∙ answered-rows s (checkVerdict s rowf bytef (length ws)) .1 passed,
-)
+-- Whatever the tests v before it are.
+module _ {v : Verdict} {ks : List Keyword} {rowf bytef ws : List ℕ} {answer : Told} {ws′ : List ℕ}
+    (checked : CheckOf v ks rowf bytef ws answer ws′) where
+  pub check-answers : v ≡ pass → Accepted ks rowf bytef → answer ≡ rowsTold ks
+  check-answers entry safe =
+      let passed : orElse v (tableVerdict ks rowf bytef) ≡ pass =
+      orElse-exactly v (tableVerdict ks rowf bytef) .1 (entry, accepted-exactly ks rowf bytef .1 safe) in
+      checked .answered ∙ sym (answer-passed (rowsTold ks) passed)
+
+  pub check-exactly : Numbered v → (answer .number ≡ 0) ↔ ((v ≡ pass) × Accepted ks rowf bytef)
+  check-exactly fine =
+      let w : Verdict = orElse v (tableVerdict ks rowf bytef) in (
+        λ e.
+            let passed : w ≡ pass =
+            answered-passed (rowsTold ks) w
+            (numbered-both v (tableVerdict ks rowf bytef) fine (numbered-table ks rowf bytef))
+            (checked .answered)
+            e in
+            let both = orElse-exactly v (tableVerdict ks rowf bytef) .0 passed in
+            (both .0, accepted-exactly ks rowf bytef .0 (both .1)),
+        λ k. ap (λ (t : Told). t .number) (check-answers (k .0) (k .1)) ∙ rows-told ks,
+      )
+
+-- The check of a set's bytes accepts exactly the safe tables.
+pub entry-numbered : (s : List ℕ) (room : ℕ) → Numbered (tableEntry s room)
+unfolding tableEntry roomVerdict
+entry-numbered s room =
+    numbered-both _ _ (numbered-file s)
+    (numbered-both _ _ (numbered-size backward (keywords s)) (numbered-workspace backward (keywords s) room))
+
+pub check-accepts : (s : List ℕ) {rowf bytef ws : List ℕ} {answer : Told} {ws′ : List ℕ} → Check s rowf bytef ws answer ws′
+    → (answer .number ≡ 0) ↔ ((tableEntry s (length ws) ≡ pass) × Accepted (keywords s) rowf bytef)
+check-accepts s {ws = ws} checked = check-exactly checked (entry-numbered s (length ws))

@@ -7,8 +7,8 @@ use mathlib.Core.Path.{_≡_, refl, sym, _∙_, ap}
 use mathlib.Core.List.{List, [], _∷_, _++_, flatMap, append-assoc, append-nil}
 use lib.ListN.{length, take, getD, set, length-append}
 use lib.Seq.{paste, paste-zero, paste-suc, length-paste, take-length, take-suc, take-all, sets-eq}
-use Rattle.rules.specs.Limits.{rowRecord}
-use Rattle.rules.specs.Sets.{Keyword, keywords}
+use Rattle.rules.specs.Limits.{rowRecord, longestWord}
+use Rattle.rules.specs.Sets.{Keyword}
 use Rattle.rules.specs.Rows.{backward, rowsOf}
 use Rattle.rules.specs.Hits.{over}
 use Rattle.rules.specs.Skips.{named, inner, edge, suffixRows, rowFile, recordOf}
@@ -60,56 +60,56 @@ flatMap-snoc f [] x = append-nil (f x)
 flatMap-snoc f (a ∷ l) x = rw (flatMap-snoc f l x) (sym (append-assoc (f a) (flatMap f l) (f x)))
 
 -- the record of a suffix fills a row's part of the file
-record-size : {s : List ℕ} {i z : ℕ} (ks : List Keyword) → Suffix s i z → length (recordOf ks (suffixAt s i z)) ≡ rowRecord
+record-size : {ks : List Keyword} {i z : ℕ} → Suffix ks i z → length (recordOf ks (suffixAt ks i z)) ≡ rowRecord
 unfolding recordOf
-record-size {s} {i} {z} ks ok =
-    let v : List ℕ = suffixAt s i z in
-    let short : length v ≤ 15 = omega (arith, suffix-length ok, suffix-short ok) in
+record-size {ks} {i} {z} ok =
+    let v : List ℕ = suffixAt ks i z in
+    let short : length v ≤ longestWord = omega (arith, suffix-length ok, suffix-short ok) in
     omega (arith, length-append (named v) (inner ks v ∷ edge ks v ∷ []), named-length v short)
 
 -- the first n records of the row file
-unfoldable pub records : List ℕ → ℕ → List ℕ
-records s n = flatMap (recordOf (keywords s)) (take n (suffixRows (keywords s)))
+unfoldable pub records : List Keyword → ℕ → List ℕ
+records ks n = flatMap (recordOf ks) (take n (suffixRows ks))
 
 -- they lie over the front of the buffer, which has room for all
-pub record Laid (s old buffer : List ℕ) (n : ℕ) : Type 0 where
-  pub room : rowRecord * length (rowsOf backward (keywords s)) ≤ length old
-  pub sized : length (records s n) ≡ rowRecord * n
-  pub known : buffer ≡ over (records s n) old
+pub record Laid (ks : List Keyword) (old buffer : List ℕ) (n : ℕ) : Type 0 where
+  pub room : rowRecord * length (rowsOf backward ks) ≤ length old
+  pub sized : length (records ks n) ≡ rowRecord * n
+  pub known : buffer ≡ over (records ks n) old
 
-pub laid-none : (s old : List ℕ) → rowRecord * length (rowsOf backward (keywords s)) ≤ length old → Laid s old old 0
+pub laid-none : (ks : List Keyword) (old : List ℕ) → rowRecord * length (rowsOf backward ks) ≤ length old → Laid ks old old 0
 unfolding records flatMap over
-laid-none s old h = record { room = h; sized = omega arith; known = refl }
+laid-none ks old h = record { room = h; sized = omega arith; known = refl }
 
-module _ {s old buffer : List ℕ} {n : ℕ} (so : Laid s old buffer n) where
-  pub laid-length : n ≤ length (rowsOf backward (keywords s)) → length buffer ≡ length old
-  laid-length h = ap length (so .known) ∙ over-length (records s n) old (omega (arith, so .sized, so .room))
+module _ {ks : List Keyword} {old buffer : List ℕ} {n : ℕ} (so : Laid ks old buffer n) where
+  pub laid-length : n ≤ length (rowsOf backward ks) → length buffer ≡ length old
+  laid-length h = ap length (so .known) ∙ over-length (records ks n) old (omega (arith, so .sized, so .room))
 
-  module _ {at : Place} (here : At s n at) where
+  module _ {at : Place} (here : At ks n at) where
     abbrev new : List ℕ
-    new = recordOf (keywords s) (suffixAt s (at .keyword) (at .depth))
+    new = recordOf ks (suffixAt ks (at .keyword) (at .depth))
 
     -- the next record is this suffix's
-    records-more : records s (n + 1) ≡ records s n ++ new
+    records-more : records ks (n + 1) ≡ records ks n ++ new
     unfolding records
     records-more =
-        let vs : List (List ℕ) = suffixRows (keywords s) in
-        let inside : n < length vs = omega (arith, here .within, suffixRows-length (keywords s)) in
-        rw (add-one n, take-suc vs n [] inside, flatMap-snoc (recordOf (keywords s)) (take n vs) (getD vs n []), here .names)
+        let vs : List (List ℕ) = suffixRows ks in
+        let inside : n < length vs = omega (arith, here .within, suffixRows-length ks) in
+        rw (add-one n, take-suc vs n [] inside, flatMap-snoc (recordOf ks) (take n vs) (getD vs n []), here .names)
 
-    pub laid-more : Laid s old (putAt buffer (rowRecord * n) (recordOf (keywords s) (suffixAt s (at .keyword) (at .depth)))) (n + 1)
+    pub laid-more : Laid ks old (putAt buffer (rowRecord * n) (recordOf ks (suffixAt ks (at .keyword) (at .depth)))) (n + 1)
     laid-more =
-        let size : length new ≡ rowRecord = record-size (keywords s) (here .reached .suffix) in
-        let fits : length (records s n) + length new ≤ length old = omega (arith, so .sized, so .room, here .within) in
+        let size : length new ≡ rowRecord = record-size (here .walked .suffix) in
+        let fits : length (records ks n) + length new ≤ length old = omega (arith, so .sized, so .room, here .within) in
         record {
           room = so .room;
-          sized = omega (arith, ap length records-more, length-append (records s n) new, so .sized);
-          known = rw (records-more, ← so .sized, so .known) (over-put (records s n) new old fits);
+          sized = omega (arith, ap length records-more, length-append (records ks n) new, so .sized);
+          known = rw (records-more, ← so .sized, so .known) (over-put (records ks n) new old fits);
         }
 
-  pub laid-all : n ≡ length (rowsOf backward (keywords s)) → buffer ≡ over (rowFile (keywords s)) old
+  pub laid-all : n ≡ length (rowsOf backward ks) → buffer ≡ over (rowFile ks) old
   unfolding records rowFile recordOf
   laid-all e =
-      let all : take n (suffixRows (keywords s)) ≡ suffixRows (keywords s) =
-      take-all n (suffixRows (keywords s)) (omega (arith, suffixRows-length (keywords s))) in
-      so .known ∙ ap (λ (l : List (List ℕ)). over (flatMap (recordOf (keywords s)) l) old) all
+      let all : take n (suffixRows ks) ≡ suffixRows ks =
+      take-all n (suffixRows ks) (omega (arith, suffixRows-length ks)) in
+      so .known ∙ ap (λ (l : List (List ℕ)). over (flatMap (recordOf ks) l) old) all

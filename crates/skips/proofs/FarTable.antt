@@ -1,5 +1,5 @@
--- The far numbers of the bytes passed: each is the lowest distance met so far, or the shortest keyword's length, so at the end of
--- the set it is the least at which some keyword holds the byte.
+-- The far numbers of the places passed, fifteen a keyword: each is the lowest distance met so far, or the shortest keyword's length,
+-- so behind the last place it is the least at which some keyword holds the byte.
 use Prim.Native.Nat.{ℕ, suc, _+_, _-_, _*_, _/_, _%_, _≤_, _<_, min}
 use native.Mathlib.Omega.{arith}
 use native.Mathlib.Nat.{eq-or-lt-of-le, zero-add}
@@ -11,62 +11,58 @@ use lib.ListN.{length, getD, set, replicate, length-map, length-set, length-repl
 use lib.Seq.{getD-set-same, getD-set-other, ext-getD}
 use lib.Dec.{eqb, leb, ltb}
 use borrow.Author.Tests.{eqb-true, eq-eqb, eqb-false, leb-true, leb-false, ltb-true, ltb-false}
-use Rattle.rules.specs.Limits.{depths, opcodes}
+use Rattle.rules.specs.Limits.{longestWord, depths, opcodes}
 use Rattle.rules.specs.Strings.{any}
-use Rattle.rules.specs.Sets.{Keyword, keywords, keywordAt, shortest}
+use Rattle.rules.specs.Sets.{Keyword, shortest}
 use Rattle.rules.specs.Skips.{holdsBefore, far, count, farTest}
-use Rattle.rules.specs.Refusals.{pass, fileVerdict}
+use Rattle.rules.specs.Sound.{Sound, noKeyword, nth}
 use Rattle.rules.proofs.Strings.{either, never, any-true}
 use Rattle.rules.proofs.Rows.{any-at}
 use Rattle.rules.proofs.Parts.{getD-map-within}
-use Rattle.rules.proofs.Sets.{file-passed, keywords-mem, getD-keywords, length-keywords}
+use Rattle.rules.proofs.Orders.{mem-at}
 use Rattle.rules.proofs.Distances.{holds-short}
 use Rattle.rules.proofs.Lowest.{least-is, holds-byte}
 use Rattle.rules.proofs.Tables.{count-length, count-at}
-use Rattle.sets.specs.Words.{Stated}
-use Rattle.sets.proofs.Records.{word-length, word-at}
-use Rattle.sets.proofs.Passed.{good-file, good-stated}
 use Rattle.skips.specs.Fars.{lowered, farTable}
 use Rattle.skips.proofs.Lowering.{lowered-length, lowered-before, lowered-behind}
 
--- byte p of the set is a keyword's byte a with d bytes of the keyword after it; and so is one of the first q bytes
-pub record Held (s : List ℕ) (p a d : ℕ) : Type 0 where
-  pub inside : 1 ≤ p % 18
-  pub behind : p % 18 + d ≡ getD s (18 * (p / 18)) 0
-  pub byte : getD s p 0 ≡ a
+-- place p is that of a keyword's byte a with d bytes of the keyword after it; and so is one of the first q places
+pub record Held (ks : List Keyword) (p a d : ℕ) : Type 0 where
+  pub behind : suc (p % longestWord + d) ≡ length (nth ks (p / longestWord) .word)
+  pub byte : getD (nth ks (p / longestWord) .word) (p % longestWord) 0 ≡ a
 
-pub record Met (s : List ℕ) (q a d : ℕ) : Type 0 where
+pub record Met (ks : List Keyword) (q a d : ℕ) : Type 0 where
   pub place : ℕ
   pub before : place < q
-  pub held : Held s place a d
+  pub held : Held ks place a d
 
-met-more : {s : List ℕ} (q : ℕ) {a d : ℕ} → Met s q a d → Met s (q + 1) a d
+met-more : {ks : List Keyword} (q : ℕ) {a d : ℕ} → Met ks q a d → Met ks (q + 1) a d
 met-more q m = record { place = m .place; before = omega arith; held = m .held }
 
-met-last : {s : List ℕ} (q : ℕ) {a d : ℕ} → Met s (q + 1) a d → Met s q a d ⊎ Held s q a d
-met-last {s} q {a} {d} m =
+met-last : {ks : List Keyword} (q : ℕ) {a d : ℕ} → Met ks (q + 1) a d → Met ks q a d ⊎ Held ks q a d
+met-last {ks} q {a} {d} m =
     ⊎-elim
     (λ (e : m .place ≡ q). inr (rw (← e) (m .held)))
     (λ (h : suc (m .place) ≤ q). inl (record { place = m .place; before = h; held = m .held }))
     (eq-or-lt-of-le (omega arith))
 
--- e is the far number of a at depth z as far as the first q bytes tell
-pub record Nearest (s : List ℕ) (m q a z e : ℕ) : Type 0 where
+-- e is the far number of a at depth z as far as the first q places tell
+pub record Nearest (ks : List Keyword) (m q a z e : ℕ) : Type 0 where
   pub some : 1 ≤ e
   pub fits : e ≤ m
-  pub below : (n : ℕ) → 1 ≤ n → Met s q a (z + n) → e ≤ n
-  pub met : (e ≡ m) ⊎ Met s q a (z + e)
+  pub below : (n : ℕ) → 1 ≤ n → Met ks q a (z + n) → e ≤ n
+  pub met : (e ≡ m) ⊎ Met ks q a (z + e)
 
-module _ (s : List ℕ) (m a z : ℕ) where
-  nearest-none : 1 ≤ m → Nearest s m 0 a z m
+module _ (ks : List Keyword) (m a z : ℕ) where
+  nearest-none : 1 ≤ m → Nearest ks m 0 a z m
   nearest-none h = record { some = h; fits = omega arith; below = λ n p t. absurd (omega (arith, t .before)); met = inl refl }
 
-  module _ (q : ℕ) {e : ℕ} (old : Nearest s m q a z e) where
-    kept : (e ≡ m) ⊎ Met s (q + 1) a (z + e)
+  module _ (q : ℕ) {e : ℕ} (old : Nearest ks m q a z e) where
+    kept : (e ≡ m) ⊎ Met ks (q + 1) a (z + e)
     kept = ⊎-elim (λ h. inl h) (λ t. inr (met-more q t)) (old .met)
 
-    -- the next byte is another, or is not far enough from its keyword's end
-    nearest-other : ((n : ℕ) → 1 ≤ n → Held s q a (z + n) → ⊥) → Nearest s m (q + 1) a z e
+    -- the next place has another byte, or is not far enough from its keyword's end
+    nearest-other : ((n : ℕ) → 1 ≤ n → Held ks q a (z + n) → ⊥) → Nearest ks m (q + 1) a z e
     nearest-other off =
         record {
           some = old .some;
@@ -75,7 +71,7 @@ module _ (s : List ℕ) (m a z : ℕ) where
           met = kept;
         }
 
-    nearest-met : (d : ℕ) → Held s q a d → z < d → Nearest s m (q + 1) a z (min e (d - z))
+    nearest-met : (d : ℕ) → Held ks q a d → z < d → Nearest ks m (q + 1) a z (min e (d - z))
     nearest-met d here h =
         record {
           some = omega (arith, old .some);
@@ -90,30 +86,30 @@ module _ (s : List ℕ) (m a z : ℕ) where
         }
 
 -- the whole table
-pub record Table (s : List ℕ) (m q : ℕ) (t : List (List ℕ)) : Type 0 where
+pub record Table (ks : List Keyword) (m q : ℕ) (t : List (List ℕ)) : Type 0 where
   pub size : length t ≡ 256
   pub wide : (a : ℕ) → a < 256 → length (getD t a []) ≡ 16
-  pub nearest : (a z : ℕ) → a < 256 → z < 16 → Nearest s m q a z (getD (getD t a []) z 0)
+  pub nearest : (a z : ℕ) → a < 256 → z < 16 → Nearest ks m q a z (getD (getD t a []) z 0)
 
-pub table-none : (s : List ℕ) (m : ℕ) → 1 ≤ m → Table s m 0 (replicate 256 (replicate 16 m))
-table-none s m h =
+pub table-none : (ks : List Keyword) (m : ℕ) → 1 ≤ m → Table ks m 0 (replicate 256 (replicate 16 m))
+table-none ks m h =
     record {
       size = length-replicate 256 (replicate 16 m);
       wide = λ a p. rw (getD-replicate 256 a (replicate 16 m) [] p) (length-replicate 16 m);
-      nearest = λ a z p q. rw (getD-replicate 256 a (replicate 16 m) [] p, getD-replicate 16 z m 0 q) (nearest-none s m a z h);
+      nearest = λ a z p q. rw (getD-replicate 256 a (replicate 16 m) [] p, getD-replicate 16 z m 0 q) (nearest-none ks m a z h);
     }
 
-module _ {s : List ℕ} {m : ℕ} (q : ℕ) {t : List (List ℕ)} (old : Table s m q t) where
-  -- the next byte is none of a keyword's
-  pub table-other : ((a d : ℕ) → Held s q a d → ⊥) → Table s m (q + 1) t
+module _ {ks : List Keyword} {m : ℕ} (q : ℕ) {t : List (List ℕ)} (old : Table ks m q t) where
+  -- the next place is behind its keyword's end
+  pub table-other : ((a d : ℕ) → Held ks q a d → ⊥) → Table ks m (q + 1) t
   table-other off =
       record {
         size = old .size;
         wide = old .wide;
-        nearest = λ a z p h. nearest-other s m a z q (old .nearest a z p h) (λ n l u. off a (z + n) u);
+        nearest = λ a z p h. nearest-other ks m a z q (old .nearest a z p h) (λ n l u. off a (z + n) u);
       }
 
-  pub table-met : (a d : ℕ) → a < 256 → Held s q a d → Table s m (q + 1) (set t a (lowered (getD t a []) d))
+  pub table-met : (a d : ℕ) → a < 256 → Held ks q a d → Table ks m (q + 1) (set t a (lowered (getD t a []) d))
   table-met a d small here =
       record {
         size = length-set t a (lowered (getD t a []) d) ∙ old .size;
@@ -122,7 +118,7 @@ module _ {s : List ℕ} {m : ℕ} (q : ℕ) {t : List (List ℕ)} (old : Table s
             λ b z p h.
             either (eqb b a)
             (λ y. let same : b ≡ a = eqb-true b a y in rw (row b y, same) (lower z h))
-            (λ n. rw (other b n) (nearest-other s m b z q (old .nearest b z p h) (λ k l u. eqb-false b a n (sym (u .byte) ∙ here .byte))));
+            (λ n. rw (other b n) (nearest-other ks m b z q (old .nearest b z p h) (λ k l u. eqb-false b a n (sym (u .byte) ∙ here .byte))));
       }
     where
       row : (b : ℕ) → eqb b a ≡ true → getD (set t a (lowered (getD t a []) d)) b [] ≡ lowered (getD t a []) d
@@ -131,13 +127,13 @@ module _ {s : List ℕ} {m : ℕ} (q : ℕ) {t : List (List ℕ)} (old : Table s
       other : (b : ℕ) → eqb b a ≡ false → getD (set t a (lowered (getD t a []) d)) b [] ≡ getD t b []
       other b n = getD-set-other t a b (lowered (getD t a []) d) [] (eqb-false b a n)
 
-      lower : (z : ℕ) → z < 16 → Nearest s m (q + 1) a z (getD (lowered (getD t a []) d) z 0)
+      lower : (z : ℕ) → z < 16 → Nearest ks m (q + 1) a z (getD (lowered (getD t a []) d) z 0)
       lower z h =
           either (ltb z d)
-          (λ y. rw (lowered-before (getD t a []) d z (omega (arith, old .wide a small)) (ltb-true z d y)) (nearest-met s m a z q (old .nearest a z small h) d here (ltb-true z d y)))
+          (λ y. rw (lowered-before (getD t a []) d z (omega (arith, old .wide a small)) (ltb-true z d y)) (nearest-met ks m a z q (old .nearest a z small h) d here (ltb-true z d y)))
           (λ n.
           rw (lowered-behind (getD t a []) d z (ltb-false z d n))
-          (nearest-other s m a z q (old .nearest a z small h) (λ k l u. omega (arith, ltb-false z d n, u .behind, here .behind))))
+          (nearest-other ks m a z q (old .nearest a z small h) (λ k l u. omega (arith, ltb-false z d n, u .behind, here .behind))))
 
 -- the table of the definition
 farTable-length : (ks : List Keyword) → length (farTable ks) ≡ 256
@@ -159,64 +155,51 @@ farTable-at ks a z p q =
     (getD-map-within (far ks a) (count 0 depths) z 0 0 (omega (arith, count-length 0 depths))
     ∙ ap (far ks a) (count-at 0 depths z 0 q ∙ zero-add z))
 
-module _ (s : List ℕ) (passed : fileVerdict s ≡ pass) where
-  stated : (i : ℕ) → i < length s / 18 → Stated s i (getD s (18 * i) 0)
-  stated i h = good-stated (good-file s passed) i h
-
-  -- a byte met in the set is one that a keyword holds, and the other way round
-  met-holds : (a d : ℕ) → Met s (length s) a d → any (λ (k : Keyword). holdsBefore (a ∷ []) d (k .word)) (keywords s) ≡ true
+module _ (ks : List Keyword) (sound : Sound ks) where
+  -- a byte met in the keywords is one that a keyword holds, and the other way round
+  met-holds : (a d : ℕ) → Met ks (longestWord * length ks) a d → any (λ (k : Keyword). holdsBefore (a ∷ []) d (k .word)) ks ≡ true
   met-holds a d m =
       let p : ℕ = m .place in
-      let i : ℕ = p / 18 in
-      let n : ℕ = getD s (18 * i) 0 in
-      let w : List ℕ = keywordAt s i .word in
-      let h : p / 18 < length s / 18 = omega (arith, file-passed s passed .whole) in
-      let long : length w ≡ n = word-length s i n (stated i h) in
-      let place : length w - suc d ≡ p % 18 - 1 = omega (arith, m .held .behind) in
-      let back : 18 * i + 1 + (p % 18 - 1) ≡ p = omega (arith, m .held .inside) in
-      let byte : getD w (length w - suc d) 0 ≡ a =
-      rw (place, word-at s i n (stated i h) (p % 18 - 1) (omega (arith, m .held .inside, m .held .behind)), back) (m .held .byte) in
+      let w : List ℕ = nth ks (p / longestWord) .word in
+      let place : length w - suc d ≡ p % longestWord = omega (arith, m .held .behind) in
+      let byte : getD w (length w - suc d) 0 ≡ a = rw place (m .held .byte) in
       let holds : holdsBefore (a ∷ []) d w ≡ true =
-      holds-byte a d w (omega (arith, m .held .inside, m .held .behind)) ∙ eq-eqb a (getD w (length w - suc d) 0) (sym byte) in
-      any-at (λ (k : Keyword). holdsBefore (a ∷ []) d (k .word)) (keywords s) i (keywordAt s i) (omega (arith, length-keywords s))
-      (rw (getD-keywords s (keywordAt s i) i h) holds)
+      holds-byte a d w (omega (arith, m .held .behind)) ∙ eq-eqb a (getD w (length w - suc d) 0) (sym byte) in
+      any-at (λ (k : Keyword). holdsBefore (a ∷ []) d (k .word)) ks (p / longestWord) noKeyword (omega (arith, m .before)) holds
 
-  holds-met : (a d : ℕ) → any (λ (k : Keyword). holdsBefore (a ∷ []) d (k .word)) (keywords s) ≡ true → Met s (length s) a d
+  holds-met : (a d : ℕ) → any (λ (k : Keyword). holdsBefore (a ∷ []) d (k .word)) ks ≡ true → Met ks (longestWord * length ks) a d
   holds-met a d t =
-      let found = any-true (λ (k : Keyword). holdsBefore (a ∷ []) d (k .word)) (keywords s) t in
-      let where-is = keywords-mem s (found .1) in
+      let found = any-true (λ (k : Keyword). holdsBefore (a ∷ []) d (k .word)) ks t in
+      let where-is = mem-at (found .1) in
       let i : ℕ = where-is .0 in
-      let h : i < length s / 18 = where-is .1 in
-      let n : ℕ = getD s (18 * i) 0 in
-      let w : List ℕ = keywordAt s i .word in
-      let long : length w ≡ n = word-length s i n (stated i h) in
-      let short : n ≤ 15 = stated i h .short in
-      let holds : holdsBefore (a ∷ []) d w ≡ true = rw (where-is .2) at (found .2) in
+      let h : where-is .0 < length ks = where-is .1 in
+      let w : List ℕ = found .0 .word in
+      let here : nth ks i ≡ found .0 = where-is .2 noKeyword in
+      let short : length w ≤ longestWord = sound .short (found .0) (found .1) in
+      let holds : holdsBefore (a ∷ []) d w ≡ true = found .2 in
       let fits : d < length w = either (ltb d (length w)) (ltb-true d (length w)) (λ f. never holds (holds-short (a ∷ []) w d (omega (arith, ltb-false d (length w) f)))) in
       let byte : a ≡ getD w (length w - suc d) 0 = eqb-true a (getD w (length w - suc d) 0) (sym (holds-byte a d w fits) ∙ holds) in
-      let place : 18 * i + 1 + (length w - suc d) ≡ 18 * i + (n - d) = omega arith in
-      let record-is : (18 * i + (n - d)) / 18 ≡ i = omega arith in
-      let place-is : (18 * i + (n - d)) % 18 ≡ n - d = omega arith in
+      let keyword-is : (longestWord * i + (length w - suc d)) / longestWord ≡ i = omega arith in
+      let place-is : (longestWord * i + (length w - suc d)) % longestWord ≡ length w - suc d = omega arith in
       record {
-        place = 18 * i + (n - d);
+        place = longestWord * i + (length w - suc d);
         before = omega arith;
         held =
             record {
-              inside = omega arith;
-              behind = rw (record-is, place-is) (omega arith);
-              byte = sym (byte ∙ word-at s i n (stated i h) (length w - suc d) (omega arith) ∙ ap (λ (j : ℕ). getD s j 0) place);
+              behind = rw (keyword-is, place-is, here) (omega arith);
+              byte = rw (keyword-is, place-is, here) (sym byte);
             };
       }
 
-  -- all bytes passed: a number is the definition's, and so is the table
-  nearest-far : (a z : ℕ) {e : ℕ} → Nearest s (shortest (keywords s)) (length s) a z e → e ≡ far (keywords s) a z
+  -- all places passed: a number is the definition's, and so is the table
+  nearest-far : (a z : ℕ) {e : ℕ} → Nearest ks (shortest ks) (longestWord * length ks) a z e → e ≡ far ks a z
   unfolding far
   nearest-far a z {e} h =
-      least-is (shortest (keywords s)) (farTest (keywords s) a z) e (h .some) (h .fits)
+      least-is (shortest ks) (farTest ks a z) e (h .some) (h .fits)
       (λ n p t. h .below n p (holds-met a (z + n) t))
       (⊎-elim (λ q. inl q) (λ m. inr (met-holds a (z + e) m)) (h .met))
 
-  pub table-all : {t : List (List ℕ)} → Table s (shortest (keywords s)) (length s) t → t ≡ farTable (keywords s)
+  pub table-all : {t : List (List ℕ)} → Table ks (shortest ks) (longestWord * length ks) t → t ≡ farTable ks
   table-all {t} known =
       ext-getD [] t (farTable ks) (known .size ∙ sym (farTable-length ks))
       (λ a p.
@@ -226,6 +209,3 @@ module _ (s : List ℕ) (passed : fileVerdict s ≡ pass) where
       (λ z q.
       let low : z < 16 = omega (arith, known .wide a small) in
       nearest-far a z (known .nearest a z small low) ∙ sym (farTable-at ks a z small low)))
-    where
-      ks : List Keyword
-      ks = keywords s

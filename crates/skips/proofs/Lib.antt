@@ -1,6 +1,5 @@
 -- Laws of suffixes, far numbers and verdicts that the proofs of the functions lean on, and the two theorems of skip tables.
 pub mod Matches
-pub mod Bounds
 pub mod Places
 pub mod Buffers
 pub mod Spelling
@@ -14,4 +13,3 @@ pub mod Tested
 pub mod Accepts
 pub mod Made
 pub mod Outcomes
-pub mod Determined

@@ -1,54 +1,79 @@
 -- What making writes, the check accepts: the fronts of the buffers are the files with the largest numbers.
 use Prim.Native.Nat.{ℕ, _*_, _<_}
+use native.Mathlib.Omega.{arith}
 use mathlib.Core.Path.{_≡_, sym, _∙_, ap}
 use mathlib.Core.List.{List}
 use lib.ListN.{length, take, getD}
 use Rattle.rules.specs.Limits.{rowRecord, byteFileSize, opcodes}
-use Rattle.rules.specs.Sets.{keywords}
+use Rattle.rules.specs.Sets.{Keyword, keywords}
 use Rattle.rules.specs.Rows.{backward, rowsOf}
 use Rattle.rules.specs.Hits.{over}
 use Rattle.rules.specs.Skips.{rowFile, byteFile}
-use Rattle.rules.specs.Refusals.{pass}
+use Rattle.rules.specs.Refusals.{Verdict, pass, bufferVerdict}
 use Rattle.rules.specs.Answers.{Told}
-use Rattle.rules.specs.Promises.{onPass, kept, rowsTold, tableEntry, makeVerdict, Make, Check}
+use Rattle.rules.specs.Promises.{onPass, kept, rowsTold, tableEntry, makeVerdict, Make, MakeOf, Check, CheckOf}
 use Rattle.rules.specs.Sound.{Sound}
 use Rattle.rules.specs.Audit.{Accepted}
 use Rattle.rules.proofs.Verdicts.{orElse-pass}
-use Rattle.rules.proofs.Sets.{set-passed}
+use Rattle.rules.proofs.Refused.{Numbered, numbered-if, numbered-both, answered-passed}
 use Rattle.rules.proofs.Bytes.{bytes-sound}
 use Rattle.rules.proofs.Buffers.{over-front}
 use Rattle.rules.proofs.Tables.{rowFile-length, byteFile-length, made-accepted}
-use Rattle.skips.proofs.Accepts.{answered-rows, check-accepts}
+use Rattle.skips.proofs.Accepts.{check-answers, entry-numbered}
 
 -- the front of a buffer, as much as a file has
 front : (new old : List ℕ) (n : ℕ) → length new ≡ n → take n (over new old) ≡ new
 front new old n e = ap (λ (k : ℕ). take k (over new old)) (sym e) ∙ over-front new old
 
-module _ {s ws rowb byteb : List ℕ} {answer : Told} {ws′ rowb′ byteb′ : List ℕ} (bytes : (i : ℕ) → getD s i 0 < opcodes)
-    (made : Make s ws rowb byteb answer ws′ rowb′ byteb′) (done : answer ≡ rowsTold s) where
-  passed : makeVerdict s (length ws) (length rowb) (length byteb) ≡ pass
-  passed = answered-rows s (makeVerdict s (length ws) (length rowb) (length byteb)) .0 (sym (made .answered) ∙ done)
+make-numbered : {v : Verdict} (ks : List Keyword) (rowRoom byteRoom : ℕ)
+    → Numbered v
+    → Numbered (makeVerdict v ks rowRoom byteRoom)
+unfolding makeVerdict bufferVerdict
+make-numbered ks rowRoom byteRoom fine =
+    numbered-both _ _ fine (numbered-both _ _ (numbered-if _ 15 _ (omega arith)) (numbered-if _ 16 0 (omega arith)))
 
-  -- the check may have the same workspace
-  pub made-entry : tableEntry s (length ws) ≡ pass
+-- Whatever the tests v before it are.
+module _ {v : Verdict} {ks : List Keyword} {ws rowb byteb : List ℕ} {answer : Told} {ws′ rowb′ byteb′ : List ℕ}
+    (made : MakeOf v ks ws rowb byteb answer ws′ rowb′ byteb′) (fine : Numbered v) (done : answer .number ≡ 0) where
+  passed : makeVerdict v ks (length rowb) (length byteb) ≡ pass
+  passed =
+      answered-passed (rowsTold ks) (makeVerdict v ks (length rowb) (length byteb))
+      (make-numbered ks (length rowb) (length byteb) fine)
+      (made .answered)
+      done
+
+  pub made-entry : v ≡ pass
   unfolding makeVerdict
   made-entry = orElse-pass _ _ passed .0
 
-  sound : Sound (keywords s)
-  unfolding tableEntry
-  sound = bytes-sound s bytes (set-passed backward s (orElse-pass _ _ made-entry .0) .file)
-
-  pub made-safe : Accepted (keywords s) (take (rowRecord * length (rowsOf backward (keywords s))) rowb′) (take byteFileSize byteb′)
+  pub made-safe : Sound ks → Accepted ks (take (rowRecord * length (rowsOf backward ks)) rowb′) (take byteFileSize byteb′)
   unfolding kept onPass
-  made-safe =
-      let ks = keywords s in
+  made-safe sound =
       let rows : take (rowRecord * length (rowsOf backward ks)) rowb′ ≡ rowFile ks =
       rw (made .rowsMade, passed) (front (rowFile ks) rowb (rowRecord * length (rowsOf backward ks)) (rowFile-length sound)) in
-      let fars : take byteFileSize byteb′ ≡ byteFile ks = rw (made .bytesMade, passed) (front (byteFile ks) byteb byteFileSize (byteFile-length ks)) in
+      let fars : take byteFileSize byteb′ ≡ byteFile ks =
+      rw (made .bytesMade, passed) (front (byteFile ks) byteb byteFileSize (byteFile-length ks)) in
       rw (rows, fars) (made-accepted sound)
 
-  pub made-checks : {vs : List ℕ} {told : Told} {vs′ : List ℕ}
-      → Check s (take (rowRecord * length (rowsOf backward (keywords s))) rowb′) (take byteFileSize byteb′) vs told vs′
-      → tableEntry s (length vs) ≡ pass
-      → told ≡ rowsTold s
-  made-checks checked entry = check-accepts checked .1 (entry, made-safe)
+  pub made-checked : Sound ks → {u : Verdict} {us : List ℕ} {told : Told} {us′ : List ℕ}
+      → CheckOf u ks (take (rowRecord * length (rowsOf backward ks)) rowb′) (take byteFileSize byteb′) us told us′
+      → u ≡ pass
+      → told ≡ rowsTold ks
+  made-checked sound checked entry = check-answers checked entry (made-safe sound)
+
+-- For a set's bytes.
+entry-sound : (s : List ℕ) (room : ℕ) → ((i : ℕ) → getD s i 0 < opcodes) → tableEntry s room ≡ pass → Sound (keywords s)
+unfolding tableEntry
+entry-sound s room bytes p = bytes-sound s bytes (orElse-pass _ _ p .0)
+
+pub made-checks : (s : List ℕ) {ws rowb byteb : List ℕ} {answer : Told} {ws′ rowb′ byteb′ : List ℕ}
+    → ((i : ℕ) → getD s i 0 < opcodes)
+    → Make s ws rowb byteb answer ws′ rowb′ byteb′
+    → answer .number ≡ 0
+    → {us : List ℕ} {told : Told} {us′ : List ℕ}
+    → Check s (take (rowRecord * length (rowsOf backward (keywords s))) rowb′) (take byteFileSize byteb′) us told us′
+    → tableEntry s (length us) ≡ pass
+    → told ≡ rowsTold (keywords s)
+made-checks s {ws = ws} bytes made done checked entry =
+    let fine = entry-numbered s (length ws) in
+    made-checked made fine done (entry-sound s (length ws) bytes (made-entry made fine done)) checked entry

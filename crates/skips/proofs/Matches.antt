@@ -1,187 +1,146 @@
--- A suffix and a part of a keyword are parts of the set's bytes, so the tests of inner and edge compare bytes of the set.
-use Prim.Native.Nat.{ℕ, suc, _+_, _-_, _*_, _/_, _≤_, _<_}
+-- A suffix is a part of a keyword, so the tests of inner and edge compare parts of two keywords.
+use Prim.Native.Nat.{ℕ, _+_, _-_, _≤_, _<_}
 use native.Mathlib.Omega.{arith}
-use mathlib.Core.Path.{_≡_, refl, sym, _∙_, ap}
-use mathlib.Core.Bool.{true, false}
-use mathlib.Core.List.{List, _∷_}
+use mathlib.Core.Path.{_≡_, refl, sym, _∙_}
+use mathlib.Core.Bool.{Bool, true, false}
+use mathlib.Core.List.{List, _∷_, [], List·Memᴰ}
 use lib.ListN.{length, take, drop, getD, length-take, length-drop}
-use lib.Seq.{drop-cons, drop-drop, take-all}
-use borrow.Author.Tests.{eq-eqb, ne-eqb}
-use Rattle.rules.specs.Strings.{same}
-use Rattle.rules.specs.Sets.{Keyword, keywordOf, recordAt, keywordAt, shortest}
+use lib.Seq.{drop-drop, take-all, getD-drop}
+use Rattle.rules.specs.declared.Way.the-variants.{Forward}
+use Rattle.rules.specs.Limits.{longestWord, opcodes}
+use Rattle.rules.specs.Strings.{same, any}
+use Rattle.rules.specs.Sets.{Keyword, shortest}
+use Rattle.rules.specs.Rows.{readBy}
 use Rattle.rules.specs.Skips.{least, inner, edge, holdsBefore, endsWithin}
-use Rattle.rules.proofs.Strings.{same-sym}
-use Rattle.rules.proofs.Sets.{length-keywords}
-use Rattle.rules.proofs.Parts.{drop-take, part-part}
+use Rattle.rules.specs.Sound.{noKeyword, nth}
+use Rattle.rules.proofs.Strings.{same-sym, any-append}
+use Rattle.rules.proofs.Rows.{any-at}
+use Rattle.rules.proofs.Orders.{getD-mem}
+use Rattle.rules.proofs.Parts.{drop-take}
 use Rattle.rules.proofs.Distances.{holds-short, holds-part, ends-whole, ends-short, ends-front}
-use Rattle.sets.specs.Words.{Stated}
-use Rattle.sets.proofs.Records.{length-at, word-length}
-use Rattle.sets.proofs.Passed.{good-file, good-whole, good-stated}
+use Rattle.words.specs.Entries.{Words, Has, keywordsIn}
+use Rattle.words.specs.Read.{wayOf, readAt}
+use Rattle.words.proofs.Entries.{has-at}
+use Rattle.words.proofs.Counted.{front-more}
 use Rattle.skips.specs.declared.numbers.Number.{Number}
 use Rattle.skips.specs.declared.numbers.Number.the-variants.{Inner, Edge}
 use Rattle.skips.specs.Suffixes.{Listed, Suffix, suffixAt, Part, partAt, testOf, somePasses, largestOf}
 
--- a keyword of a set that passed: its record, its length and its bytes
-module _ {s : List ℕ} {i : ℕ} (ok : Listed s i) where
-  pub listed-within : i < length s / 18
-  listed-within = omega (arith, ok .within, length-keywords s)
+-- a keyword of a set that passed: its length and its bytes
+module _ {ks : List Keyword} {i : ℕ} (ok : Listed ks i) where
+  listed-mem : List·Memᴰ (nth ks i) ks
+  listed-mem = getD-mem ks noKeyword i (ok .within)
 
-  pub listed-whole : 18 * i + 18 ≤ length s
-  listed-whole = good-whole (good-file s (ok .passed)) i listed-within
+  pub listed-short : length (nth ks i .word) ≤ longestWord
+  listed-short = ok .sound .short (nth ks i) listed-mem
 
-  pub listed-stated : Stated s i (getD s (18 * i) 0)
-  listed-stated = good-stated (good-file s (ok .passed)) i listed-within
+  pub listed-byte : (k : ℕ) → k < length (nth ks i .word) → getD (nth ks i .word) k 0 < opcodes
+  listed-byte k h = ok .sound .bytes (nth ks i) listed-mem (getD (nth ks i .word) k 0) (getD-mem (nth ks i .word) 0 k h)
 
-  pub listed-length : length (keywordAt s i .word) ≡ getD s (18 * i) 0
-  listed-length = word-length s i (getD s (18 * i) 0) listed-stated
+-- where a list of words holds the keywords, it has this one
+pub listed-has : {l : List ℕ} {i : ℕ} → Words l → Listed (keywordsIn l) i → Has l i
+listed-has words ok = has-at words (ok .within)
 
-  pub listed-short : length (keywordAt s i .word) ≤ 15
-  listed-short = omega (arith, listed-length, listed-stated .short)
+-- a unit read forward is the keyword's
+pub unit-read : (ks : List Keyword) (i k : ℕ) {r : ℕ}
+    → r ≡ getD (readAt (wayOf Forward) ks i) k 0
+    → r ≡ getD (nth ks i .word) k 0
+unfolding wayOf readAt readBy
+unit-read ks i k e = e
 
-  word-is : keywordAt s i .word ≡ take (length (keywordAt s i .word)) (drop (18 * i + 1) s)
-  unfolding keywordAt keywordOf recordAt
-  word-is =
-      let n : ℕ = getD (recordAt s i) 0 0 in
-      let stated : n ≡ getD s (18 * i) 0 = length-at s i listed-whole in
-      let long : n ≡ length (keywordAt s i .word) = stated ∙ sym listed-length in
-      part-part s (18 * i) 18 1 n (omega (arith, listed-short))
-      ∙ ap (λ (m : ℕ). take m (drop (18 * i + 1) s)) long
-
-  pub word-part : (m z : ℕ) → m + z ≤ length (keywordAt s i .word) → take z (drop m (keywordAt s i .word)) ≡ take z (drop (18 * i + 1 + m) s)
-  word-part m z h =
-      ap (λ (w : List ℕ). take z (drop m w)) word-is
-      ∙ part-part s (18 * i + 1) (length (keywordAt s i .word)) m z h
-
--- its length is a
-pub record Measured (s : List ℕ) (i a : ℕ) : Type 0 where
-  pub long : a ≡ length (keywordAt s i .word)
-  pub whole : 18 * i + 18 ≤ length s
-  pub short : a ≤ 15
-
-pub measured : {s : List ℕ} {i a : ℕ} → Listed s i → a ≡ getD s (18 * i) 0 → Measured s i a
-measured p e =
-    record { long = e ∙ sym (listed-length p); whole = listed-whole p; short = omega (arith, listed-stated p .short) }
-
--- the last z bytes of it
-module _ {s : List ℕ} {i z : ℕ} (ok : Suffix s i z) where
-  pub suffix-length : length (suffixAt s i z) ≡ z
+-- the last z bytes of a keyword
+module _ {ks : List Keyword} {i z : ℕ} (ok : Suffix ks i z) where
+  pub suffix-length : length (suffixAt ks i z) ≡ z
   unfolding suffixAt
-  suffix-length = omega (arith, ok .short, length-drop (length (keywordAt s i .word) - z) (keywordAt s i .word))
+  suffix-length = omega (arith, ok .short, length-drop (length (nth ks i .word) - z) (nth ks i .word))
 
-  pub suffix-short : z ≤ 15
+  pub suffix-short : z ≤ longestWord
   suffix-short = omega (arith, ok .short, listed-short (ok .listed))
 
-  -- where keyword i has the length a, they are a part of the set
-  module _ {a : ℕ} (known : Measured s i a) where
-    pub suffix-within : Part s (18 * i + 1 + a - z) z
-    suffix-within = record { within = omega (arith, known, ok .short); short = omega (arith, known, ok .short) }
+  -- they are a part of it
+  module _ {a : ℕ} (long : a ≡ length (nth ks i .word)) where
+    pub suffix-within : Part ks i (a - z) z
+    suffix-within = record { listed = ok .listed; within = omega (arith, ok .short) }
 
-    pub suffix-part : suffixAt s i z ≡ partAt s (18 * i + 1 + a - z) z
+    pub suffix-part : suffixAt ks i z ≡ partAt ks i (a - z) z
     unfolding suffixAt partAt
     suffix-part =
-        let w : List ℕ = keywordAt s i .word in
+        let w : List ℕ = nth ks i .word in
         let short : z ≤ length w = ok .short in
-        let long : a ≡ length w = known .long in
-        let place : 18 * i + 1 + (length w - z) ≡ 18 * i + 1 + a - z = omega arith in
-        sym (take-all z (drop (length w - z) w) (omega (arith, length-drop (length w - z) w)))
-        ∙ word-part (ok .listed) (length w - z) z (omega arith)
-        ∙ rw place
+        rw long (sym (take-all z (drop (length w - z) w) (omega (arith, length-drop (length w - z) w))))
 
--- a part of the set, and the last y bytes of it
-module _ {s : List ℕ} {from z : ℕ} (ok : Part s from z) where
-  pub part-length : length (partAt s from z) ≡ z
+    pub suffix-at : (k : ℕ) → getD (nth ks i .word) (a - z + k) 0 ≡ getD (suffixAt ks i z) k 0
+    unfolding suffixAt
+    suffix-at k = rw long (sym (getD-drop (length (nth ks i .word) - z) (nth ks i .word) k 0))
+
+-- a part of a keyword, and the last y bytes of it
+module _ {ks : List Keyword} {i from z : ℕ} (ok : Part ks i from z) where
+  pub part-short : z ≤ longestWord
+  part-short = omega (arith, ok .within, listed-short (ok .listed))
+
+  part-length : length (partAt ks i from z) ≡ z
   unfolding partAt
-  part-length = omega (arith, ok .within, length-take z (drop from s), length-drop from s)
+  part-length =
+      omega (arith, ok .within, length-take z (drop from (nth ks i .word)), length-drop from (nth ks i .word))
 
-  part-tail : (y : ℕ) → y ≤ z → drop (z - y) (partAt s from z) ≡ take y (drop (from + z - y) s)
+  part-tail : (y : ℕ) → y ≤ z → drop (z - y) (partAt ks i from z) ≡ take y (drop (from + z - y) (nth ks i .word))
   unfolding partAt
   part-tail y h =
+      let w : List ℕ = nth ks i .word in
       let left : z - (z - y) ≡ y = omega arith in
       let place : from + (z - y) ≡ from + z - y = omega arith in
-      drop-take (z - y) z (drop from s) ∙ rw (left, drop-drop (z - y) from s, place)
+      drop-take (z - y) z (drop from w) ∙ rw (left, drop-drop (z - y) from w, place)
 
--- The two tests of a part of the set against keyword k.
-module _ {s : List ℕ} {from z k b : ℕ} (ok : Part s from z) (other : Listed s k) (known : Measured s k b) (n : ℕ) where
+-- The two tests of a part of a keyword against the keyword at place k, whose length is b.
+module _ {ks : List Keyword} {i from z : ℕ} (ok : Part ks i from z) (k n : ℕ) {b : ℕ} (long : b ≡ length (nth ks k .word)) where
   abbrev v : List ℕ
-  v = partAt s from z
+  v = partAt ks i from z
 
   abbrev w : List ℕ
-  w = keywordAt s k .word
+  w = nth ks k .word
 
-  pub holds-never : b < n + z → false ≡ holdsBefore (partAt s from z) n (keywordAt s k .word)
-  holds-never h = sym (holds-short v w n (omega (arith, known .long, part-length ok)))
+  pub holds-never : b < n + z → false ≡ holdsBefore (partAt ks i from z) n (nth ks k .word)
+  holds-never h = sym (holds-short v w n (omega (arith, part-length ok)))
 
   pub holds-compared : n + z ≤ b
-      → same (take z (drop from s)) (take z (drop (18 * k + 1 + b - n - z) s)) ≡ holdsBefore (partAt s from z) n (keywordAt s k .word)
+      → same (take z (drop from (nth ks i .word))) (take z (drop (b - n - z) (nth ks k .word)))
+      ≡ holdsBefore (partAt ks i from z) n (nth ks k .word)
   unfolding partAt
   holds-compared h =
       let size : length v ≡ z = part-length ok in
-      let long : b ≡ length w = known .long in
-      let place : 18 * k + 1 + (length w - n - z) ≡ 18 * k + 1 + b - n - z = omega arith in
-      sym (holds-part v w n (omega arith) ∙ rw (size, word-part other (length w - n - z) z (omega arith), place))
+      rw long (sym (holds-part v w n (omega arith) ∙ rw size))
 
-  pub ends-always : b ≤ n → true ≡ endsWithin (partAt s from z) n (keywordAt s k .word)
-  ends-always h = sym (ends-whole v w n (omega (arith, known .long)))
+  pub ends-always : b ≤ n → true ≡ endsWithin (partAt ks i from z) n (nth ks k .word)
+  ends-always h = sym (ends-whole v w n (omega arith))
 
   module _ (longer : n < b) where
-    pub ends-never : z < b - n → false ≡ endsWithin (partAt s from z) n (keywordAt s k .word)
-    ends-never h = sym (ends-short v w n (omega (arith, known .long)) (omega (arith, known .long, part-length ok)))
+    pub ends-never : z < b - n → false ≡ endsWithin (partAt ks i from z) n (nth ks k .word)
+    ends-never h = sym (ends-short v w n (omega arith) (omega (arith, part-length ok)))
 
     pub ends-compared : b - n ≤ z
-        → same (take (b - n) (drop (from + z - (b - n)) s)) (take (b - n) (drop (18 * k + 1) s)) ≡ endsWithin (partAt s from z) n (keywordAt s k .word)
+        → same (take (b - n) (drop (from + z - (b - n)) (nth ks i .word))) (take (b - n) (drop 0 (nth ks k .word)))
+        ≡ endsWithin (partAt ks i from z) n (nth ks k .word)
     ends-compared h =
-        let front : List ℕ = take (b - n) (drop (18 * k + 1) s) in
-        let long : b ≡ length w = known .long in
-        let root : 18 * k + 1 + 0 ≡ 18 * k + 1 = omega arith in
-        let begins : take (b - n) w ≡ front = rw root at (word-part other 0 (b - n) (omega arith)) in
+        let front : List ℕ = take (b - n) w in
         sym (ends-front v w n (omega arith) (omega (arith, part-length ok))
-        ∙ rw (← long, part-length ok, begins, part-tail ok (b - n) h)
-        (same-sym front (take (b - n) (drop (from + z - (b - n)) s))))
+        ∙ rw (← long, part-length ok, part-tail ok (b - n) h)
+        (same-sym front (take (b - n) (drop (from + z - (b - n)) (nth ks i .word)))))
 
--- n bytes from p on and from q on are the same where they are the same behind the k bytes passed
-pub record Matched (s : List ℕ) (p q n k : ℕ) : Type 0 where
-  pub left : p + n ≤ length s
-  pub right : q + n ≤ length s
-  pub low : k ≤ n
-  pub known : same (take n (drop p s)) (take n (drop q s)) ≡ same (take (n - k) (drop (p + k) s)) (take (n - k) (drop (q + k) s))
+-- whether a keyword passes: of none, of one more, once one does, and of all
+module _ (p : Keyword → Bool) (ks : List Keyword) where
+  pub some-none : any p (take 0 ks) ≡ false
+  unfolding any
+  some-none = refl
 
-pub matched-none : {s : List ℕ} {p q n : ℕ} → p + n ≤ length s → q + n ≤ length s → Matched s p q n 0
-matched-none {s} {p} {q} {n} a b =
-    let here : p + 0 ≡ p = omega arith in
-    let there : q + 0 ≡ q = omega arith in
-    let all : n - 0 ≡ n = omega arith in
-    record { left = a; right = b; low = omega arith; known = rw (here, there, all) }
+  pub some-more : (n : ℕ) → n < length ks → any p (take n ks) ≡ false → p (nth ks n) ≡ false → any p (take (n + 1) ks) ≡ false
+  unfolding any
+  some-more n h old new = rw (front-more ks n h, any-append p (take n ks) (nth ks n ∷ []), old, new)
 
-module _ {s : List ℕ} {p q n k : ℕ} (so : Matched s p q n k) where
-  pub matched-all : n ≤ k → true ≡ same (take n (drop p s)) (take n (drop q s))
-  unfolding same
-  matched-all h = let none : n - k ≡ 0 = omega (arith, so .low) in sym (so .known ∙ rw none)
+  pub some-once : (n : ℕ) → n < length ks → p (nth ks n) ≡ true → any p ks ≡ true
+  some-once n h q = any-at p ks n noKeyword h q
 
-  module _ (h : k < n) where
-    more : n - k ≡ suc (n - suc k)
-    more = omega arith
-
-    first : same (take n (drop p s)) (take n (drop q s)) ≡ same (getD s (p + k) 0 ∷ take (n - suc k) (drop (suc (p + k)) s)) (getD s (q + k) 0 ∷ take (n - suc k) (drop (suc (q + k)) s))
-    first =
-        so .known
-        ∙ rw (more, drop-cons s (p + k) 0 (omega (arith, so .left)), drop-cons s (q + k) 0 (omega (arith, so .right)))
-
-    pub matched-stop : (getD s (p + k) 0 ≡ getD s (q + k) 0 → ⊥) → false ≡ same (take n (drop p s)) (take n (drop q s))
-    unfolding same
-    matched-stop f = sym (first ∙ rw (ne-eqb _ _ f))
-
-    pub matched-more : getD s (p + k) 0 ≡ getD s (q + k) 0 → Matched s p q n (k + 1)
-    unfolding same
-    matched-more e =
-        let here : p + (k + 1) ≡ suc (p + k) = omega arith in
-        let there : q + (k + 1) ≡ suc (q + k) = omega arith in
-        let rest : n - (k + 1) ≡ n - suc k = omega arith in
-        record {
-          left = so .left;
-          right = so .right;
-          low = omega arith;
-          known = first ∙ rw (here, there, rest, eq-eqb _ _ e);
-        }
+  pub some-all : (n : ℕ) → length ks ≤ n → any p (take n ks) ≡ false → any p ks ≡ false
+  some-all n h q = rw (take-all n ks h) at q
 
 -- a number is the least at which some keyword passes its test
 pub largest-least : (which : Number) (ks : List Keyword) (v : List ℕ) → largestOf which ks v ≡ least (shortest ks) (somePasses which ks v)

@@ -1,139 +1,202 @@
 -- What making and the check answer, outcome by outcome: the first test that shows a fault is the verdict.
 use Prim.Native.Nat.{ℕ, _*_, _≤_, _<_}
-use mathlib.Core.Path.{_≡_, refl, sym, subst}
+use mathlib.Core.Path.{_≡_, refl, sym, _∙_, ap}
 use mathlib.Core.List.{List}
 use lib.ListN.{length}
 use borrow.Author.Tests.{ltb-false, lt-ltb, le-ltb}
 use Rattle.rules.specs.declared.Refusal.{Refusal}
 use Rattle.rules.specs.declared.Refusal.the-variants.{RowBufferShort, ByteBufferShort}
-use Rattle.rules.specs.declared.Tabled.{Tabled}
+use Rattle.rules.specs.declared.Counted.{Counted}
 use Rattle.rules.specs.Limits.{mostRows, rowCells, rowRecord, byteFileSize}
-use Rattle.rules.specs.Sets.{keywords}
+use Rattle.rules.specs.Sets.{Keyword, keywords}
 use Rattle.rules.specs.Rows.{backward, rowsOf, cells}
 use Rattle.rules.specs.Hits.{over}
 use Rattle.rules.specs.Skips.{rowFile, byteFile}
-use Rattle.rules.specs.Refusals.{pass, refuse, refuseIf, orElse, fileVerdict, traceVerdict, workspaceVerdict, tableVerdict, bufferVerdict}
-use Rattle.rules.specs.Answers.{numberOf, placeOf, toldTable}
-use Rattle.rules.specs.Promises.{onPass, kept, answerOr, withRows, tableEntry, rowsTold, Make, makeVerdict, Check, checkVerdict}
-use Rattle.rules.proofs.Verdicts.{orElse-pass, refuseIf-pass}
-use Rattle.rules.proofs.Sets.{set-passed}
-use Rattle.rows.specs.declared.enter.Entered.{Entered}
-use Rattle.rows.specs.declared.enter.Entered.the-variants.{Rows, Refused}
-use Rattle.rows.specs.Entry.{enteredVerdict, Admission}
+use Rattle.rules.specs.Refusals.{pass, refuse, refuseIf, orElse, fileVerdict, rowsVerdict, traceVerdict, workspaceVerdict, entryVerdict, tableVerdict, bufferVerdict}
+use Rattle.rules.specs.Answers.{Told, numberOf, placeOf, toldCount, toldCounted}
+use Rattle.rules.specs.Promises.{onPass, kept, answerOr, withRows, roomVerdict, tableEntry, rowsTold, Make, MakeOf, makeVerdict, Check, CheckOf}
+use Rattle.rules.proofs.Verdicts.{orElse-pass, refuseIf-pass, pass-orElse, refuse-orElse}
+use Rattle.rules.proofs.Refused.{Numbered, numbered-both, numbered-size, numbered-workspace}
+use Rattle.rules.proofs.Counts.{answer-refused, counted-number, counted-refused}
+use Rattle.words.specs.Entries.{keywordsIn}
+use Rattle.sets.proofs.Opened.{Opened}
 use Rattle.skips.specs.Beginning.{Begun}
 
--- the verdict of a job that has entered with no trace
-pub table-judged : (s : List ℕ) (room : ℕ) {r : Entered} → Admission backward s 0 room r → enteredVerdict r ≡ tableEntry s room
-unfolding tableEntry traceVerdict refuseIf orElse
-table-judged s room a = a .judged
+-- the verdict of a job that has entered with no trace: test 8 passes
+room-entry : (ks : List Keyword) (room : ℕ) → entryVerdict backward ks 0 room ≡ roomVerdict ks room
+unfolding roomVerdict traceVerdict refuseIf orElse
+room-entry ks room = refl
 
--- what a set and a workspace that passed are
-pub record Admitted (s ws : List ℕ) : Type 0 where
-  pub file : fileVerdict s ≡ pass
-  pub few : length (rowsOf backward (keywords s)) ≤ mostRows
-  pub room : rowCells * length (rowsOf backward (keywords s)) ≤ length ws
+room-numbered : (ks : List Keyword) (room : ℕ) → Numbered (roomVerdict ks room)
+unfolding roomVerdict
+room-numbered ks room = numbered-both _ _ (numbered-size backward ks) (numbered-workspace backward ks room)
 
-pub table-admitted : (s ws : List ℕ) → tableEntry s (length ws) ≡ pass → Admitted s ws
-unfolding tableEntry workspaceVerdict
-table-admitted s ws p =
+-- what keywords and a workspace that passed are
+pub record Room (ks : List Keyword) (ws : List ℕ) : Type 0 where
+  pub few : length (rowsOf backward ks) ≤ mostRows
+  pub fits : rowCells * length (rowsOf backward ks) ≤ length ws
+
+pub room-passed : (ks : List Keyword) (ws : List ℕ) → roomVerdict ks (length ws) ≡ pass → Room ks ws
+unfolding roomVerdict rowsVerdict workspaceVerdict
+room-passed ks ws p =
     let a = orElse-pass _ _ p in
-    let set = set-passed backward s (a .0) in
     record {
-      file = set .file;
-      few = set .rows;
-      room = ltb-false (length ws) (rowCells * length (rowsOf backward (keywords s))) (refuseIf-pass _ _ (a .1));
+      few = ltb-false mostRows (length (rowsOf backward ks)) (refuseIf-pass _ _ (a .0));
+      fits = ltb-false (length ws) (rowCells * length (rowsOf backward ks)) (refuseIf-pass _ _ (a .1));
     }
 
-pub entry-passed : {s : List ℕ} {room n : ℕ} → Admission backward s 0 room (Rows n) → tableEntry s room ≡ pass
-unfolding enteredVerdict
-entry-passed {s} {room} a = sym (table-judged s room a)
-
 -- The first tests refused, and the workspace is as it was; or they passed, and it holds the rows.
-module _ {s ws : List ℕ} where
-  pub begun-refused : (r : Refusal) → Admission backward s 0 (length ws) (Refused r) → Begun s ws (Refused r) ws
-  unfolding kept onPass enteredVerdict
-  begun-refused r a =
-      let refused = table-judged s (length ws) a in
-      record { judged = refused; counted = a .counted; rows = rw (← refused) }
+module _ (ks : List Keyword) (ws : List ℕ) where
+  entered : (r : Counted)
+      → toldCounted r ≡ answerOr (toldCount (length (rowsOf backward ks))) (entryVerdict backward ks 0 (length ws))
+      → toldCounted r ≡ answerOr (rowsTold ks) (roomVerdict ks (length ws))
+  unfolding rowsTold
+  entered r e = e ∙ ap (answerOr (toldCount (length (rowsOf backward ks)))) (room-entry ks (length ws))
 
-  pub begun-rows : {ws′ : List ℕ} (n : ℕ) → Admission backward s 0 (length ws) (Rows n) → ws′ ≡ over (cells backward (keywords s)) ws → Begun s ws (Rows n) ws′
-  unfolding kept onPass enteredVerdict withRows
-  begun-rows n a laid =
-      let fine = table-judged s (length ws) a in
-      record { judged = fine; counted = a .counted; rows = rw (← fine) laid }
+  pub begun-refused : (fault : Refusal)
+      → toldCounted (Counted.Refused fault) ≡ answerOr (toldCount (length (rowsOf backward ks))) (entryVerdict backward ks 0 (length ws))
+      → Begun ks ws (Counted.Refused fault) ws
+  unfolding kept onPass rowsTold
+  begun-refused fault e =
+      let no = counted-refused fault (rowsTold ks) (roomVerdict ks (length ws)) refl (entered (Counted.Refused fault) e) in
+      record { told = entered (Counted.Refused fault) e; rows = rw no }
 
--- what is said of an outcome is said of its value, and what a job that passed has
-module _ {s ws ws′ : List ℕ} where
-  pub begun-as : {r q : Entered} → r ≡ q → Begun s ws r ws′ → Begun s ws q ws′
-  begun-as e b = subst (λ (x : Entered). Begun s ws x ws′) e b
+  pub begun-room : (n : ℕ)
+      → toldCounted (Counted.Number n) ≡ answerOr (toldCount (length (rowsOf backward ks))) (entryVerdict backward ks 0 (length ws))
+      → Room ks ws
+  unfolding rowsTold
+  begun-room n e =
+      room-passed ks ws (counted-number (length (rowsOf backward ks)) (roomVerdict ks (length ws)) (room-numbered ks (length ws)) (entered (Counted.Number n) e) .0)
 
-  pub passed-there : {n : ℕ} → Begun s ws (Rows n) ws′ → tableEntry s (length ws) ≡ pass
-  unfolding enteredVerdict
-  passed-there b = sym (b .judged)
+  pub begun-rows : (n : ℕ) {ws′ : List ℕ}
+      → toldCounted (Counted.Number n) ≡ answerOr (toldCount (length (rowsOf backward ks))) (entryVerdict backward ks 0 (length ws))
+      → ws′ ≡ over (cells backward ks) ws
+      → Begun ks ws (Counted.Number n) ws′
+  unfolding kept onPass withRows rowsTold
+  begun-rows n e laid =
+      let fine = counted-number (length (rowsOf backward ks)) (roomVerdict ks (length ws)) (room-numbered ks (length ws)) (entered (Counted.Number n) e) .0 in
+      record { told = entered (Counted.Number n) e; rows = rw fine laid }
 
-  pub begun-admitted : {n : ℕ} → Begun s ws (Rows n) ws′ → Admitted s ws
-  begun-admitted b = table-admitted s ws (passed-there b)
+-- what a job that began has
+module _ {ks : List Keyword} {ws ws′ : List ℕ} {n : ℕ} (begun : Begun ks ws (Counted.Number n) ws′) where
+  pub begun-passed : (roomVerdict ks (length ws) ≡ pass) × (n ≡ length (rowsOf backward ks))
+  unfolding rowsTold
+  begun-passed = counted-number (length (rowsOf backward ks)) (roomVerdict ks (length ws)) (room-numbered ks (length ws)) (begun .told)
 
--- The check: refused on entry, by the table, or not.
-module _ {s rowf bytef ws : List ℕ} where
-  pub check-entry : (r : Refusal) {ws′ : List ℕ} → Begun s ws (Refused r) ws′ → Check s rowf bytef ws (toldTable (Tabled.Refused r)) ws′
-  unfolding checkVerdict answerOr onPass orElse enteredVerdict
-  check-entry r b = record { answered = rw (← b .judged); rows = b .rows }
+refused-there : {ks : List Keyword} {ws ws′ : List ℕ} (fault : Refusal) → Begun ks ws (Counted.Refused fault) ws′
+    → roomVerdict ks (length ws) ≡ refuse (numberOf fault) (placeOf fault)
+unfolding rowsTold
+refused-there {ks} {ws} fault begun = counted-refused fault (rowsTold ks) (roomVerdict ks (length ws)) refl (begun .told)
 
-  module _ {ws′ : List ℕ} {n : ℕ} (begun : Begun s ws (Rows n) ws′) where
-    pub check-refused : (r : Refusal) → refuse (numberOf r) (placeOf r) ≡ tableVerdict (keywords s) rowf bytef → Check s rowf bytef ws (toldTable (Tabled.Refused r)) ws′
-    unfolding checkVerdict answerOr onPass orElse
-    check-refused r p = record { answered = rw (passed-there begun, ← p); rows = begun .rows }
+-- The check: refused on entry, or as the table's tests say.
+module _ {ks : List Keyword} {rowf bytef ws ws′ : List ℕ} where
+  pub check-entry : (fault : Refusal) → Begun ks ws (Counted.Refused fault) ws′
+      → CheckOf (roomVerdict ks (length ws)) ks rowf bytef ws (toldCounted (Counted.Refused fault)) ws′
+  check-entry fault begun =
+      record {
+        answered = answer-refused (rowsTold ks) (refuse-orElse _ (refused-there fault begun));
+        rows = begun .rows;
+      }
 
-    pub check-passed : pass ≡ tableVerdict (keywords s) rowf bytef → Check s rowf bytef ws (toldTable (Tabled.Rows n)) ws′
-    unfolding checkVerdict answerOr onPass orElse rowsTold
-    check-passed p = record { answered = rw (passed-there begun, ← p, begun .counted n refl); rows = begun .rows }
+  pub check-judged : {n : ℕ} {a : Told} → Begun ks ws (Counted.Number n) ws′
+      → a ≡ answerOr (rowsTold ks) (tableVerdict ks rowf bytef)
+      → CheckOf (roomVerdict ks (length ws)) ks rowf bytef ws a ws′
+  check-judged begun e =
+      record {
+        answered = e ∙ ap (answerOr (rowsTold ks)) (sym (pass-orElse (tableVerdict ks rowf bytef) (begun-passed begun .0)));
+        rows = begun .rows;
+      }
 
 -- Making: refused on entry, by a short buffer, or not.
-module _ {s ws rowb byteb : List ℕ} where
-  pub make-entry : (r : Refusal) {ws′ : List ℕ} → Begun s ws (Refused r) ws′ → Make s ws rowb byteb (toldTable (Tabled.Refused r)) ws′ rowb byteb
-  unfolding makeVerdict answerOr kept onPass orElse enteredVerdict
-  make-entry r b =
-      let no = b .judged in
-      record { answered = rw (← no); rows = b .rows; rowsMade = rw (← no); bytesMade = rw (← no) }
+module _ {ks : List Keyword} {ws ws′ : List ℕ} (rowb byteb : List ℕ) where
+  pub make-entry : (fault : Refusal) → Begun ks ws (Counted.Refused fault) ws′
+      → MakeOf (roomVerdict ks (length ws)) ks ws rowb byteb (toldCounted (Counted.Refused fault)) ws′ rowb byteb
+  unfolding makeVerdict answerOr kept onPass orElse
+  make-entry fault begun =
+      let no = refused-there fault begun in
+      record { answered = rw no; rows = begun .rows; rowsMade = rw no; bytesMade = rw no }
 
-  module _ {ws′ : List ℕ} {rows : ℕ} (begun : Begun s ws (Rows rows) ws′) where
-    pub make-rows-short : length rowb < rowRecord * rows → Make s ws rowb byteb (toldTable (Tabled.Refused (RowBufferShort rows))) ws′ rowb byteb
+  module _ {rows : ℕ} (begun : Begun ks ws (Counted.Number rows) ws′) where
+    pub make-rows-short : length rowb < rowRecord * rows
+        → MakeOf (roomVerdict ks (length ws)) ks ws rowb byteb (toldCounted (Counted.Refused (RowBufferShort rows))) ws′ rowb byteb
     unfolding makeVerdict bufferVerdict answerOr kept onPass orElse refuseIf
     make-rows-short short =
+        let fine = begun-passed begun in
         let no = lt-ltb (length rowb) (rowRecord * rows) short in
         record {
-          answered = rw (passed-there begun, ← begun .counted rows refl, no);
+          answered = rw (fine .0, ← fine .1, no);
           rows = begun .rows;
-          rowsMade = rw (passed-there begun, ← begun .counted rows refl, no);
-          bytesMade = rw (passed-there begun, ← begun .counted rows refl, no);
+          rowsMade = rw (fine .0, ← fine .1, no);
+          bytesMade = rw (fine .0, ← fine .1, no);
         }
 
     module _ (room : rowRecord * rows ≤ length rowb) where
-      pub make-bytes-short : length byteb < byteFileSize → Make s ws rowb byteb (toldTable (Tabled.Refused ByteBufferShort)) ws′ rowb byteb
+      pub make-bytes-short : length byteb < byteFileSize
+          → MakeOf (roomVerdict ks (length ws)) ks ws rowb byteb (toldCounted (Counted.Refused ByteBufferShort)) ws′ rowb byteb
       unfolding makeVerdict bufferVerdict answerOr kept onPass orElse refuseIf
       make-bytes-short short =
-          let fine = le-ltb (length rowb) (rowRecord * rows) room in
+          let fine = begun-passed begun in
+          let fits = le-ltb (length rowb) (rowRecord * rows) room in
           let no = lt-ltb (length byteb) byteFileSize short in
           record {
-            answered = rw (passed-there begun, ← begun .counted rows refl, fine, no);
+            answered = rw (fine .0, ← fine .1, fits, no);
             rows = begun .rows;
-            rowsMade = rw (passed-there begun, ← begun .counted rows refl, fine, no);
-            bytesMade = rw (passed-there begun, ← begun .counted rows refl, fine, no);
+            rowsMade = rw (fine .0, ← fine .1, fits, no);
+            bytesMade = rw (fine .0, ← fine .1, fits, no);
           }
 
       pub make-done : {rowb′ byteb′ : List ℕ}
           → byteFileSize ≤ length byteb
-          → rowb′ ≡ over (rowFile (keywords s)) rowb
-          → byteb′ ≡ over (byteFile (keywords s)) byteb
-          → Make s ws rowb byteb (toldTable (Tabled.Rows rows)) ws′ rowb′ byteb′
+          → rowb′ ≡ over (rowFile ks) rowb
+          → byteb′ ≡ over (byteFile ks) byteb
+          → MakeOf (roomVerdict ks (length ws)) ks ws rowb byteb (toldCounted (Counted.Number rows)) ws′ rowb′ byteb′
       unfolding makeVerdict bufferVerdict answerOr kept onPass orElse refuseIf rowsTold
       make-done enough rowsPut bytesPut =
-          let fine = le-ltb (length rowb) (rowRecord * rows) room in
+          let fine = begun-passed begun in
+          let fits = le-ltb (length rowb) (rowRecord * rows) room in
           let good = le-ltb (length byteb) byteFileSize enough in
           record {
-            answered = rw (passed-there begun, ← begun .counted rows refl, fine, good);
+            answered = rw (fine .0, ← fine .1, fits, good);
             rows = begun .rows;
-            rowsMade = rw (passed-there begun, ← begun .counted rows refl, fine, good) rowsPut;
-            bytesMade = rw (passed-there begun, ← begun .counted rows refl, fine, good) bytesPut;
+            rowsMade = rw (fine .0, ← fine .1, fits, good) rowsPut;
+            bytesMade = rw (fine .0, ← fine .1, fits, good) bytesPut;
           }
+
+-- With the words of a set that was read, and with a set that was refused.
+entry-read : {s l : List ℕ} (room : ℕ) → Opened s l → tableEntry s room ≡ roomVerdict (keywords s) room
+unfolding tableEntry
+entry-read {s} room so = pass-orElse (roomVerdict (keywords s) room) (so .passed)
+
+entry-unread : (s : List ℕ) (room : ℕ) (fault : Refusal)
+    → fileVerdict s ≡ refuse (numberOf fault) (placeOf fault)
+    → tableEntry s room ≡ refuse (numberOf fault) (placeOf fault)
+unfolding tableEntry
+entry-unread s room fault e = refuse-orElse (roomVerdict (keywords s) room) e
+
+pub make-read : {s l ws rowb byteb : List ℕ} {a : Told} {ws′ rowb′ byteb′ : List ℕ}
+    → Opened s l
+    → MakeOf (roomVerdict (keywordsIn l) (length ws)) (keywordsIn l) ws rowb byteb a ws′ rowb′ byteb′
+    → Make s ws rowb byteb a ws′ rowb′ byteb′
+make-read {ws = ws} so promise = rw (entry-read (length ws) so) (rw (so .holds) at promise)
+
+pub make-unread : (s : List ℕ) {ws rowb byteb : List ℕ} (fault : Refusal)
+    → fileVerdict s ≡ refuse (numberOf fault) (placeOf fault)
+    → Make s ws rowb byteb (toldCounted (Counted.Refused fault)) ws rowb byteb
+unfolding makeVerdict answerOr kept onPass orElse
+make-unread s {ws} fault e =
+    let no = entry-unread s (length ws) fault e in
+    record { answered = rw no; rows = rw no; rowsMade = rw no; bytesMade = rw no }
+
+pub check-read : {s l rowf bytef ws : List ℕ} {a : Told} {ws′ : List ℕ}
+    → Opened s l
+    → CheckOf (roomVerdict (keywordsIn l) (length ws)) (keywordsIn l) rowf bytef ws a ws′
+    → Check s rowf bytef ws a ws′
+check-read {ws = ws} so promise = rw (entry-read (length ws) so) (rw (so .holds) at promise)
+
+pub check-unread : (s : List ℕ) {rowf bytef ws : List ℕ} (fault : Refusal)
+    → fileVerdict s ≡ refuse (numberOf fault) (placeOf fault)
+    → Check s rowf bytef ws (toldCounted (Counted.Refused fault)) ws
+unfolding answerOr kept onPass orElse
+check-unread s {ws = ws} fault e =
+    let no = entry-unread s (length ws) fault e in
+    record { answered = rw no; rows = rw no }

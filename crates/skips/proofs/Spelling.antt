@@ -1,16 +1,14 @@
 -- A row's record is filled from the front: the suffix's length, its first k bytes, zeros behind, and at the end the two numbers.
-use Prim.Native.Nat.{ℕ, suc, _+_, _-_, _*_, _≤_, _<_}
+use Prim.Native.Nat.{ℕ, suc, _+_, _-_, _≤_, _<_}
 use native.Mathlib.Omega.{arith}
 use native.Mathlib.Numerals.{add-one}
 use mathlib.Core.Path.{_≡_, sym, _∙_, ap}
 use mathlib.Core.List.{List, [], _∷_, _++_, append-assoc}
-use lib.ListN.{length, take, drop, getD, set, replicate, length-append, replicate-append-replicate}
-use lib.Seq.{take-suc, take-all, length-take-le, set-at, append-snoc, getD-take, getD-drop}
+use lib.ListN.{length, take, getD, set, replicate, length-append, replicate-append-replicate}
+use lib.Seq.{take-suc, take-all, length-take-le, set-at, append-snoc}
 use Rattle.rules.specs.Limits.{longestWord}
 use Rattle.rules.specs.Skips.{named}
 use Rattle.rules.proofs.Tables.{named-length}
-use Rattle.skips.specs.Suffixes.{Suffix, suffixAt, partAt}
-use Rattle.skips.proofs.Matches.{Measured, suffix-part}
 
 -- the length of v and its first k bytes stand in the record
 pub record Spelled (v numbers : List ℕ) (k : ℕ) : Type 0 where
@@ -32,7 +30,7 @@ spelled-none v z e h = record { short = h; low = omega arith; known = rw e }
 module _ {v numbers : List ℕ} {k : ℕ} (so : Spelled v numbers k) where
   pub spelled-more : (b : ℕ) → b ≡ getD v k 0 → k < length v → Spelled v (set numbers (1 + k) b) (k + 1)
   spelled-more b e h =
-      let short : length v ≤ 15 = so .short in
+      let short : length v ≤ longestWord = so .short in
       let room : 17 - k ≡ suc (17 - suc k) = omega arith in
       let place : 1 + k ≡ suc k = omega arith in
       let front : length (length v ∷ take k v) ≡ suc k = ap suc (length-take-le k v (omega arith)) in
@@ -46,7 +44,7 @@ module _ {v numbers : List ℕ} {k : ℕ} (so : Spelled v numbers k) where
 
   pub spelled-all : length v ≤ k → (a b : ℕ) → set (set numbers 16 a) 17 b ≡ named v ++ (a ∷ b ∷ [])
   spelled-all h a b =
-      let short : length v ≤ 15 = so .short in
+      let short : length v ≤ longestWord = so .short in
       let all : k ≡ length v = omega (arith, so .low) in
       let size : length (named v) ≡ 16 = named-length v short in
       let more : length (named v ++ (a ∷ [])) ≡ 17 = omega (arith, length-append (named v) (a ∷ [])) in
@@ -56,11 +54,3 @@ module _ {v numbers : List ℕ} {k : ℕ} (so : Spelled v numbers k) where
       (ap (λ (l : List ℕ). set l 17 b) (set-at (named v) 0 (0 ∷ []) a 16 size ∙ sym (append-snoc (named v) a (0 ∷ [])))
       ∙ set-at (named v ++ (a ∷ [])) 0 [] b 17 more
       ∙ append-snoc (named v) a (b ∷ []))
-
--- a byte of a suffix of keyword i, whose length is a, stands in the set
-pub suffix-at : {s : List ℕ} {i z a : ℕ} → Suffix s i z → Measured s i a → (k : ℕ) → k < z
-    → getD s (18 * i + 1 + a - z + k) 0 ≡ getD (suffixAt s i z) k 0
-unfolding partAt
-suffix-at {s} {i} {z} {a} ok known k h =
-    let place : ℕ = 18 * i + 1 + a - z in
-    sym (ap (λ (l : List ℕ). getD l k 0) (suffix-part ok known) ∙ getD-take z (drop place s) k 0 h ∙ getD-drop place s k 0)

@@ -1,6 +1,6 @@
 -- The tests of a table in their order: the first that shows a fault decides.
 use Prim.Native.Nat.{ℕ, _*_}
-use mathlib.Core.Path.{_≡_, sym, _∙_}
+use mathlib.Core.Path.{_≡_, sym, _∙_, ap}
 use mathlib.Core.List.{List}
 use lib.ListN.{length}
 use borrow.Author.Tests.{eq-eqb, ne-eqb}
@@ -8,26 +8,38 @@ use Rattle.rules.specs.Sets.{Keyword}
 use Rattle.rules.specs.Rows.{backward, rowsOf}
 use Rattle.rules.specs.Skips.{suffixRows}
 use Rattle.rules.specs.Refusals.{pass, refuse, refuseIf, orElse, rowVerdicts, farVerdicts, tableVerdict}
+use Rattle.rules.specs.Answers.{Told, toldCount}
+use Rattle.rules.specs.Promises.{answerOr, rowsTold}
 use Rattle.rules.proofs.Tables.{suffixRows-length}
 
 module _ (ks : List Keyword) (rowf bytef : List ℕ) (rows : ℕ) (counted : rows ≡ length (rowsOf backward ks)) where
   count : length (suffixRows ks) ≡ rows
   count = suffixRows-length ks ∙ sym counted
 
-  pub table-size : (length rowf ≡ 18 * rows → ⊥) → refuse 10 rows ≡ tableVerdict ks rowf bytef
+  pub table-size : (length rowf ≡ 18 * rows → ⊥) → tableVerdict ks rowf bytef ≡ refuse 10 rows
   unfolding tableVerdict orElse refuseIf
   table-size h = rw (count, ne-eqb (length rowf) (18 * rows) h)
 
   module _ (sized : length rowf ≡ 18 * rows) where
-    pub table-rows : {n p : ℕ} → rowVerdicts ks 0 (suffixRows ks) rowf ≡ refuse n p → refuse n p ≡ tableVerdict ks rowf bytef
+    pub table-rows : {n p : ℕ} → rowVerdicts ks 0 (suffixRows ks) rowf ≡ refuse n p → tableVerdict ks rowf bytef ≡ refuse n p
     unfolding tableVerdict orElse refuseIf
     table-rows h = rw (count, eq-eqb (length rowf) (18 * rows) sized, h)
 
     module _ (passed : rowVerdicts ks 0 (suffixRows ks) rowf ≡ pass) where
-      pub table-bytes : (length bytef ≡ 4096 → ⊥) → refuse 13 0 ≡ tableVerdict ks rowf bytef
+      pub table-bytes : (length bytef ≡ 4096 → ⊥) → tableVerdict ks rowf bytef ≡ refuse 13 0
       unfolding tableVerdict orElse refuseIf
       table-bytes h = rw (count, eq-eqb (length rowf) (18 * rows) sized, passed, ne-eqb (length bytef) 4096 h)
 
-      pub table-fars : length bytef ≡ 4096 → farVerdicts ks 4096 0 bytef ≡ tableVerdict ks rowf bytef
+      fars : length bytef ≡ 4096 → farVerdicts ks 4096 0 bytef ≡ tableVerdict ks rowf bytef
       unfolding tableVerdict orElse refuseIf
-      table-fars h = rw (count, eq-eqb (length rowf) (18 * rows) sized, passed, eq-eqb (length bytef) 4096 h)
+      fars h = rw (count, eq-eqb (length rowf) (18 * rows) sized, passed, eq-eqb (length bytef) 4096 h)
+
+      told : toldCount rows ≡ rowsTold ks
+      unfolding rowsTold
+      told = ap toldCount counted
+
+      pub table-fars : length bytef ≡ 4096
+          → answerOr (toldCount rows) (farVerdicts ks 4096 0 bytef)
+          ≡ answerOr (rowsTold ks) (tableVerdict ks rowf bytef)
+      table-fars h =
+          ap (λ (a : Told). answerOr a (farVerdicts ks 4096 0 bytef)) told ∙ ap (answerOr (rowsTold ks)) (fars h)

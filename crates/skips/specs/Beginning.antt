@@ -3,15 +3,13 @@ use Prim.Native.Nat.{ℕ}
 use mathlib.Core.Path.{_≡_}
 use mathlib.Core.List.{List}
 use lib.ListN.{length}
-use Rattle.rules.specs.Sets.{keywords}
-use Rattle.rules.specs.Rows.{backward, rowsOf}
-use Rattle.rules.specs.Promises.{kept, withRows, tableEntry}
-use Rattle.rows.specs.declared.enter.Entered.{Entered}
-use Rattle.rows.specs.declared.enter.Entered.the-variants.{Rows}
-use Rattle.rows.specs.Entry.{enteredVerdict}
+use Rattle.rules.specs.declared.Counted.{Counted}
+use Rattle.rules.specs.Sets.{Keyword}
+use Rattle.rules.specs.Rows.{backward}
+use Rattle.rules.specs.Answers.{toldCounted}
+use Rattle.rules.specs.Promises.{kept, answerOr, withRows, roomVerdict, rowsTold}
 
--- the tests 1 to 7 and 9, the number of rows where they pass, and the workspace with the rows then
-pub record Begun (s ws : List ℕ) (r : Entered) (ws′ : List ℕ) : Type 0 where
-  pub judged : enteredVerdict r ≡ tableEntry s (length ws)
-  pub counted : (n : ℕ) → r ≡ Rows n → n ≡ length (rowsOf backward (keywords s))
-  pub rows : ws′ ≡ kept ws (withRows backward s ws) (tableEntry s (length ws))
+-- the tests 7 and 9, the number of rows where they pass, and the workspace with the rows then
+pub record Begun (ks : List Keyword) (ws : List ℕ) (r : Counted) (ws′ : List ℕ) : Type 0 where
+  pub told : toldCounted r ≡ answerOr (rowsTold ks) (roomVerdict ks (length ws))
+  pub rows : ws′ ≡ kept ws (withRows backward ks ws) (roomVerdict ks (length ws))

@@ -5,32 +5,70 @@ pub mod suffixes; // suffixes.rt: the backward rows in row order, and their reco
 pub mod judge; // judge.rt: the tests of a table
 
 use crate::fars::put_bytes;
-use crate::judge::Judged;
 use crate::judge::judge;
 use crate::suffixes::put_rows;
-use rows::enter::Entered;
-use rows::enter::enter;
+use rows::entry::enter;
 use rows::lay;
 use rules::BYTES;
+use rules::Counted;
 use rules::ROW;
 use rules::Refusal;
-use rules::Tabled;
 use rules::Way;
-use sets::shortest_of;
-ghost use Rattle.rules.specs.Answers.{toldTable};
-ghost use Rattle.rules.specs.Promises.{Make, Check};
+use sets::read;
+use words::ENTRY;
+use words::LIST;
+use words::shortest_of;
+ghost use lib.ListN.{length};
+ghost use Rattle.rules.specs.Answers.{toldCounted};
+ghost use Rattle.rules.specs.Promises.{roomVerdict, Make, MakeOf, Check, CheckOf};
+ghost use Rattle.rules.specs.Sound.{Sound};
+ghost use Rattle.words.specs.Entries.{Words, keywordsIn};
 ghost use Rattle.skips.specs.Beginning.{Begun};
 
-// What making and the check begin with: the tests 1 to 7 and 9, and where they pass the set's backward rows in the workspace.
-fn begin(set: &[u8], workspace: &mut [u16]) -> Entered
-    ensures { λ r. ⌜ Begun (now (set .entry)) (now (workspace .entry)) r (now (workspace .exit)) ⌝ }
+// What making and the check begin with: the tests 7 and 9, and where they pass the backward rows in the workspace.
+fn begin(words: &[u16], workspace: &mut [u16]) -> Counted
+    requires { ⌜ Words (now words) × Sound (keywordsIn (now words)) ⌝ }
+    ensures { λ r. ⌜ Begun (keywordsIn (now (words .entry))) (now (workspace .entry)) r (now (workspace .exit)) ⌝ }
 {
-    let entered = enter(set, Way::Backward, 0, workspace.len());
+    let entered = enter(words, Way::Backward, 0, workspace.len());
     match entered {
-        Entered::Refused(fault) => Entered::Refused(fault),
-        Entered::Rows(rows) => {
-            lay(workspace, set, Way::Backward);
-            Entered::Rows(rows)
+        Counted::Refused(fault) => Counted::Refused(fault),
+        Counted::Number(rows) => {
+            lay(workspace, words, Way::Backward);
+            Counted::Number(rows)
+        }
+    }
+}
+
+// Making for the words of a set: refusals 7, 9, 15 and 16, else the number of rows.
+fn make_words(
+    words: &[u16],
+    workspace: &mut [u16],
+    row_buffer: &mut [u8],
+    byte_buffer: &mut [u8],
+) -> Counted
+    requires { ⌜ Words (now words) × Sound (keywordsIn (now words)) ⌝ }
+    ensures { λ r. ⌜
+        MakeOf (roomVerdict (keywordsIn (now (words .entry))) (length (now (workspace .entry))))
+        (keywordsIn (now (words .entry))) (now (workspace .entry)) (now («row_buffer» .entry)) (now («byte_buffer» .entry))
+        (toldCounted r) (now (workspace .exit)) (now («row_buffer» .exit)) (now («byte_buffer» .exit))
+        ⌝ }
+{
+    let begun = begin(words, workspace);
+    match begun {
+        Counted::Refused(fault) => Counted::Refused(fault),
+        Counted::Number(count) => {
+            let rows = count as usize;
+            if row_buffer.len() < ROW * rows {
+                return Counted::Refused(Refusal::RowBufferShort { rows: count });
+            }
+            if byte_buffer.len() < BYTES {
+                return Counted::Refused(Refusal::ByteBufferShort);
+            }
+            let m = shortest_of(words);
+            put_rows(words, m, rows, row_buffer);
+            put_bytes(words, m, byte_buffer);
+            Counted::Number(count)
         }
     }
 }
@@ -41,40 +79,53 @@ pub fn make(
     workspace: &mut [u16],
     row_buffer: &mut [u8],
     byte_buffer: &mut [u8],
-) -> Tabled
-    ensures { λ r. ⌜ Make (now (set .entry)) (now (workspace .entry)) (now («row_buffer» .entry)) (now («byte_buffer» .entry)) (toldTable r) (now (workspace .exit)) (now («row_buffer» .exit)) (now («byte_buffer» .exit)) ⌝ }
+) -> Counted
+    ensures { λ r. ⌜
+        Make (now (set .entry)) (now (workspace .entry)) (now («row_buffer» .entry)) (now («byte_buffer» .entry)) (toldCounted r)
+        (now (workspace .exit)) (now («row_buffer» .exit)) (now («byte_buffer» .exit))
+        ⌝ }
 {
-    let begun = begin(set, workspace);
-    match begun {
-        Entered::Refused(fault) => Tabled::Refused(fault),
-        Entered::Rows(rows) => {
-            if row_buffer.len() < ROW * rows {
-                return Tabled::Refused(Refusal::RowBufferShort { rows: rows as u16 });
-            }
-            if byte_buffer.len() < BYTES {
-                return Tabled::Refused(Refusal::ByteBufferShort);
-            }
-            let m = shortest_of(set);
-            put_rows(set, m, rows, row_buffer);
-            put_bytes(set, m, byte_buffer);
-            Tabled::Rows(rows as u16)
+    let mut list = [0u16; LIST];
+    let found = read(set, &mut list);
+    match found {
+        Counted::Refused(fault) => Counted::Refused(fault),
+        Counted::Number(count) => {
+            let end = ENTRY * count as usize;
+            make_words(&list[..end], workspace, row_buffer, byte_buffer)
         }
     }
 }
 
-// Whether a table is safe for a set: refusals 1 to 7 and 9 to 14, else the number of rows.
-pub fn check(set: &[u8], row_file: &[u8], byte_file: &[u8], workspace: &mut [u16]) -> Tabled
-    ensures { λ r. ⌜ Check (now (set .entry)) (now («row_file» .entry)) (now («byte_file» .entry)) (now (workspace .entry)) (toldTable r) (now (workspace .exit)) ⌝ }
+// The check for the words of a set: refusals 7 and 9 to 14, else the number of rows.
+fn check_words(words: &[u16], row_file: &[u8], byte_file: &[u8], workspace: &mut [u16]) -> Counted
+    requires { ⌜ Words (now words) × Sound (keywordsIn (now words)) ⌝ }
+    ensures { λ r. ⌜
+        CheckOf (roomVerdict (keywordsIn (now (words .entry))) (length (now (workspace .entry))))
+        (keywordsIn (now (words .entry))) (now («row_file» .entry)) (now («byte_file» .entry)) (now (workspace .entry))
+        (toldCounted r) (now (workspace .exit))
+        ⌝ }
 {
-    let begun = begin(set, workspace);
+    let begun = begin(words, workspace);
     match begun {
-        Entered::Refused(fault) => Tabled::Refused(fault),
-        Entered::Rows(rows) => {
-            let judged = judge(set, rows, row_file, byte_file);
-            match judged {
-                Judged::Refused(fault) => Tabled::Refused(fault),
-                Judged::Safe => Tabled::Rows(rows as u16),
-            }
+        Counted::Refused(fault) => Counted::Refused(fault),
+        Counted::Number(rows) => judge(words, rows as usize, row_file, byte_file),
+    }
+}
+
+// Whether a table is safe for a set: refusals 1 to 7 and 9 to 14, else the number of rows.
+pub fn check(set: &[u8], row_file: &[u8], byte_file: &[u8], workspace: &mut [u16]) -> Counted
+    ensures { λ r. ⌜
+        Check (now (set .entry)) (now («row_file» .entry)) (now («byte_file» .entry)) (now (workspace .entry)) (toldCounted r)
+        (now (workspace .exit))
+        ⌝ }
+{
+    let mut list = [0u16; LIST];
+    let found = read(set, &mut list);
+    match found {
+        Counted::Refused(fault) => Counted::Refused(fault),
+        Counted::Number(count) => {
+            let end = ENTRY * count as usize;
+            check_words(&list[..end], row_file, byte_file, workspace)
         }
     }
 }

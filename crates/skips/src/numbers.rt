@@ -1,13 +1,15 @@
-// inner and edge of a suffix, as document 01 words them: against every keyword at every distance. A suffix is z bytes of the set from a place on.
-use rules::RECORD;
-use sets::length_of;
+// inner and edge of a suffix, as document 01 words them: against every keyword at every distance. A suffix is z units of the keyword at
+// place i, from an offset on.
+use words::alike;
+use words::count_of;
+use words::length_of;
 ghost use mathlib.Core.Path.{_≡_};
-ghost use Prim.Native.Nat.{_+_, _*_, _<_, _≤_};
-ghost use lib.ListN.{length, take, drop};
-ghost use Rattle.rules.specs.Strings.{same};
-ghost use Rattle.rules.specs.Sets.{keywords, keywordAt, shortest};
-ghost use Rattle.rules.specs.Refusals.{pass, fileVerdict};
+ghost use Prim.Native.Nat.{_<_};
+ghost use Rattle.rules.specs.Limits.{depths};
+ghost use Rattle.rules.specs.Sets.{shortest};
 ghost use Rattle.rules.specs.Skips.{holdsBefore, endsWithin};
+ghost use Rattle.rules.specs.Sound.{nth};
+ghost use Rattle.words.specs.Entries.{Words, keywordsIn};
 ghost use Rattle.skips.specs.Suffixes.{Part, Listed, partAt, testOf, somePasses, largestOf};
 
 // The two numbers of a suffix, each capped at the shortest keyword's length. inner: the least n from 1 up such that some keyword has it with
@@ -17,39 +19,39 @@ pub(crate) enum Number {
     Edge,
 }
 
-// Whether n bytes of the set are the same from p on and from q on.
-fn alike(set: &[u8], p: usize, q: usize, n: usize) -> bool
-    requires { ⌜ (p + n ≤ length (now set)) × (q + n ≤ length (now set)) ⌝ }
-    ensures { λ r. ⌜ r ≡ same (take n (drop p (now (set .entry)))) (take n (drop q (now (set .entry)))) ⌝ }
+// Whether the keyword at place k has the suffix with exactly n bytes after it.
+fn holds_before(words: &[u16], i: usize, from: usize, z: usize, k: usize, n: usize) -> bool
+    requires { ⌜
+        Words (now words)
+        × Part (keywordsIn (now words)) i from z
+        × Listed (keywordsIn (now words)) k
+        × (n < depths)
+        ⌝ }
+    ensures { λ r. ⌜
+        r ≡ holdsBefore (partAt (keywordsIn (now (words .entry))) i from z) n
+        (nth (keywordsIn (now (words .entry))) k .word)
+        ⌝ }
 {
-    let mut k = 0;
-    while k < n {
-        if set[p + k] != set[q + k] {
-            return false;
-        }
-        k += 1;
-    }
-    true
-}
-
-// Whether keyword k has the suffix with exactly n bytes after it.
-fn holds_before(set: &[u8], from: usize, z: usize, k: usize, n: usize) -> bool
-    requires { ⌜ Part (now set) from z × Listed (now set) k × (n < 16) ⌝ }
-    ensures { λ r. ⌜ r ≡ holdsBefore (partAt (now (set .entry)) from z) n (keywordAt (now (set .entry)) k .word) ⌝ }
-{
-    let b = length_of(set, k);
+    let b = length_of(words, k);
     if b < n + z {
         return false;
     }
-    alike(set, from, RECORD * k + 1 + b - n - z, z)
+    alike(words, i, from, k, b - n - z, z)
 }
 
-// Whether some string made of the suffix and n further bytes ends with keyword k.
-fn ends_within(set: &[u8], from: usize, z: usize, k: usize, n: usize) -> bool
-    requires { ⌜ Part (now set) from z × Listed (now set) k ⌝ }
-    ensures { λ r. ⌜ r ≡ endsWithin (partAt (now (set .entry)) from z) n (keywordAt (now (set .entry)) k .word) ⌝ }
+// Whether some string made of the suffix and n further bytes ends with the keyword at place k.
+fn ends_within(words: &[u16], i: usize, from: usize, z: usize, k: usize, n: usize) -> bool
+    requires { ⌜
+        Words (now words)
+        × Part (keywordsIn (now words)) i from z
+        × Listed (keywordsIn (now words)) k
+        ⌝ }
+    ensures { λ r. ⌜
+        r ≡ endsWithin (partAt (keywordsIn (now (words .entry))) i from z) n
+        (nth (keywordsIn (now (words .entry))) k .word)
+        ⌝ }
 {
-    let b = length_of(set, k);
+    let b = length_of(words, k);
     if b <= n {
         return true;
     }
@@ -57,29 +59,39 @@ fn ends_within(set: &[u8], from: usize, z: usize, k: usize, n: usize) -> bool
     if z < front {
         return false;
     }
-    alike(set, from + z - front, RECORD * k + 1, front)
+    alike(words, i, from + z - front, k, 0, front)
 }
 
-// Whether keyword k stops the search for a number of the suffix at n.
-fn passes(set: &[u8], from: usize, z: usize, k: usize, n: usize, which: Number) -> bool
-    requires { ⌜ Part (now set) from z × Listed (now set) k × (n < 16) ⌝ }
-    ensures { λ r. ⌜ r ≡ testOf which (partAt (now (set .entry)) from z) n (keywordAt (now (set .entry)) k .word) ⌝ }
+// Whether the keyword at place k stops the search for a number of the suffix at n.
+fn passes(words: &[u16], i: usize, from: usize, z: usize, k: usize, n: usize, which: Number) -> bool
+    requires { ⌜
+        Words (now words)
+        × Part (keywordsIn (now words)) i from z
+        × Listed (keywordsIn (now words)) k
+        × (n < depths)
+        ⌝ }
+    ensures { λ r. ⌜
+        r ≡ testOf which (partAt (keywordsIn (now (words .entry))) i from z) n
+        (nth (keywordsIn (now (words .entry))) k .word)
+        ⌝ }
 {
     match which {
-        Number::Inner => holds_before(set, from, z, k, n),
-        Number::Edge => ends_within(set, from, z, k, n),
+        Number::Inner => holds_before(words, i, from, z, k, n),
+        Number::Edge => ends_within(words, i, from, z, k, n),
     }
 }
 
 // Whether some keyword does.
-fn some_passes(set: &[u8], from: usize, z: usize, n: usize, which: Number) -> bool
-    requires { ⌜ Part (now set) from z × (fileVerdict (now set) ≡ pass) × (n < 16) ⌝ }
-    ensures { λ r. ⌜ r ≡ somePasses which (keywords (now (set .entry))) (partAt (now (set .entry)) from z) n ⌝ }
+fn some_passes(words: &[u16], i: usize, from: usize, z: usize, n: usize, which: Number) -> bool
+    requires { ⌜ Words (now words) × Part (keywordsIn (now words)) i from z × (n < depths) ⌝ }
+    ensures { λ r. ⌜
+        r ≡ somePasses which (keywordsIn (now (words .entry))) (partAt (keywordsIn (now (words .entry))) i from z) n
+        ⌝ }
 {
-    let count = set.len() / RECORD;
+    let count = count_of(words);
     let mut k = 0;
     while k < count {
-        if passes(set, from, z, k, n, which) {
+        if passes(words, i, from, z, k, n, which) {
             return true;
         }
         k += 1;
@@ -88,13 +100,27 @@ fn some_passes(set: &[u8], from: usize, z: usize, n: usize, which: Number) -> bo
 }
 
 // A number of the suffix: the least n from 1 up at which some keyword stops the search, capped at m.
-pub(crate) fn largest(set: &[u8], from: usize, z: usize, m: usize, which: Number) -> usize
-    requires { ⌜ Part (now set) from z × (fileVerdict (now set) ≡ pass) × (m ≡ shortest (keywords (now set))) ⌝ }
-    ensures { λ r. ⌜ (r ≡ largestOf which (keywords (now (set .entry))) (partAt (now (set .entry)) from z)) × (r < 16) ⌝ }
+pub(crate) fn largest(
+    words: &[u16],
+    i: usize,
+    from: usize,
+    z: usize,
+    m: usize,
+    which: Number,
+) -> usize
+    requires { ⌜
+        Words (now words)
+        × Part (keywordsIn (now words)) i from z
+        × (m ≡ shortest (keywordsIn (now words)))
+        ⌝ }
+    ensures { λ r. ⌜
+        (r ≡ largestOf which (keywordsIn (now (words .entry))) (partAt (keywordsIn (now (words .entry))) i from z))
+        × (r < depths)
+        ⌝ }
 {
     let mut n = 1;
     while n < m {
-        if some_passes(set, from, z, n, which) {
+        if some_passes(words, i, from, z, n, which) {
             return n;
         }
         n += 1;

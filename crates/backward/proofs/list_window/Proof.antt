@@ -1,4 +1,5 @@
--- What is listed and the keywords not yet listed are all that the window met: each turn lists the one before the last listed.
+-- What is listed and the keywords not yet listed are all that the window met: each turn lists the one before the last
+-- listed.
 use Prim.Native.Nat.{ℕ, suc, _-_, _≤_, _<_}
 use native.Mathlib.Omega.{arith}
 use mathlib.Core.Path.{_≡_, refl, _∙_}
@@ -10,31 +11,34 @@ use Rattle.backward.proofs.list_window.Statement.{statement}
 use Rattle.backward.proofs.list_window.Tie as tie
 
 abbrev Inv-loop : tie.InvT-loop
-Inv-loop set hits₀ end met keys next₀ left₀ hits next left =
+Inv-loop words hits₀ end met keys next₀ left₀ hits next left =
     (left ≤ met)
     × (lib.ListN.length hits ≡ lib.ListN.length hits₀)
-    × ((done : List Hit) (old : List ℕ) → Closing set end keys met done old next₀ hits₀ → Closed set end keys met left done old next hits)
+    × ((done : List Hit) (old : List ℕ)
+    → Closing words end keys met done old next₀ hits₀
+    → Closed words end keys met left done old next hits)
 
 abbrev μ-loop : tie.MeasureT-loop
-μ-loop set hits₀ end met keys next₀ left₀ hits next left = left
+μ-loop words hits₀ end met keys next₀ left₀ hits next left = left
 
 loop-holds : tie.Need-loop-holds Inv-loop μ-loop
 loop-holds c = (omega arith, refl, λ done old closing. closed-none closing)
 
-sub-k : tie.Need-sub-k Inv-loop μ-loop
-sub-k c = omega arith
+sub-number : tie.Need-sub-number Inv-loop μ-loop
+sub-number c = omega arith
 
-mul-k : tie.Need-mul-k Inv-loop μ-loop
-mul-k c = omega (arith, c .before .before .before .before .pre .2)
+mul-number : tie.Need-mul-number Inv-loop μ-loop
+mul-number c = omega (arith, c .before .before .before .before .pre .2)
 
-array-read-k : tie.Need-array-read-k Inv-loop μ-loop
-array-read-k c = omega (arith, c .before .before .before .before .pre .2)
+array-read-number : tie.Need-array-read-number Inv-loop μ-loop
+array-read-number c = omega (arith, c .before .before .before .before .pre .2)
 
-cast-k : tie.Need-cast-k Inv-loop μ-loop
-cast-k c =
+cast-number : tie.Need-cast-number Inv-loop μ-loop
+cast-number c =
     let p = c .before .before .before .before .pre .2 in
     let left = c .before .loop .left in
-    omega (arith, p .known (left - 1) (omega (arith, p)), p .sound .few)
+    let named = p .known (left - 1) (omega (arith, p)) in
+    omega (arith, p .sound .slots (named .0) (named .1), named .2)
 
 list-requires : tie.Need-list-requires Inv-loop μ-loop
 list-requires c κs =
@@ -78,10 +82,10 @@ list-window-spec =
     Inv-loop
     μ-loop
     loop-holds
-    sub-k
-    mul-k
-    array-read-k
-    cast-k
+    sub-number
+    mul-number
+    array-read-number
+    cast-number
     list-requires
     sub-left
     loop-less

@@ -22,7 +22,9 @@ wide-requires c κs = search needs
 returns : tie.Need-returns
 returns c =
     let a = c .before .before .before .before .before .args in
-    omega (arith, moveIn-start (now (a .row-file)) (now (a .byte-file)) (a .row) (a .depth) (a .unread) (a .missing) (c .if1 .taken))
+    let known =
+    moveIn-start (now (a .row-file)) (now (a .byte-file)) (a .row) (a .depth) (a .unread) (a .missing) (c .if1 .taken) in
+    omega (arith, known)
 
 mul-wide-2 : tie.Need-mul-wide-2
 mul-wide-2 c = search needs

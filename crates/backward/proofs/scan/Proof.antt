@@ -1,159 +1,83 @@
--- The tests decide; where they pass, the workspace holds the rows and the table is safe, and the run finds every hit.
-use native.Mathlib.Omega.{arith}
-use mathlib.Core.Path.{_≡_, sym, _∙_, ap}
-use lib.ListN.{length}
+-- The set's own tests decide; where they pass, its words are scanned.
+use mathlib.Core.Path.{sym}
+use lib.Seq.{length-take-le}
 use denote.Ref.{now}
+use Rattle.rules.specs.declared.Counted.{Counted}
+use Rattle.sets.specs.Reading.{Read}
+use Rattle.sets.proofs.Opened.{opened, opened-room, refused}
+use Rattle.backward.proofs.Outcomes.{backward-read, backward-unread}
 use borrow.Author.Needs.{needs}
-use Rattle.rules.specs.Limits.{opcodes}
-use Rattle.rules.specs.Sets.{keywords}
-use Rattle.rules.specs.Rows.{backward}
-use Rattle.rules.specs.Refusals.{pass, tableVerdict}
-use Rattle.rules.specs.Promises.{backwardEntry}
-use Rattle.rules.specs.Sound.{Sound}
-use Rattle.rules.proofs.Bytes.{mem-below, bytes-sound}
-use Rattle.sets.specs.Words.{wayOf}
-use Rattle.rows.specs.Entry.{enteredVerdict}
-use Rattle.rows.proofs.Admitted.{Admitted, entry-admitted}
-use Rattle.skips.specs.Judging.{judgedVerdict}
-use Rattle.backward.specs.Windowed.{Prepared}
-use Rattle.backward.proofs.Outcomes.{backward-refused, backward-unsafe, backward-prepared, count-few, questions-few, backward-found}
 use Rattle.backward.proofs.scan.Statement.{statement}
 use Rattle.backward.proofs.scan.Tie as tie
 
-enter-requires : tie.Need-enter-requires
-enter-requires c κs = search needs
+-- what the reader answered: a refusal, or how many keywords
+unread : (c : tie.After-known-told)
+    → let r = c .before .before .before .before in
+    Read (now (r .before .before .before .before .before .before .before .before .args .set)) (Counted.Refused (c .before .found .given .0 .0)) (r .read .last .1 .0)
+unread c = rw (c .before .found .given .1) at (c .before .before .before .before .read .ensures)
 
-enum-known-entered : tie.Need-enum-known-entered
-enum-known-entered c = search needs
+list-read : (c : tie.After-known-told2)
+    → let r = c .before .before .before .before in
+    Read (now (r .before .before .before .before .before .before .before .before .args .set)) (Counted.Number (c .before .found2 .given .0 .0)) (r .read .last .1 .0)
+list-read c = rw (c .before .found2 .given .1) at (c .before .before .before .before .read .ensures)
 
-enum-known-entered-2 : tie.Need-enum-known-entered-2
-enum-known-entered-2 c = search needs
+slice-aggregate-read : tie.Need-slice-aggregate-read
+slice-aggregate-read c = search needs
 
--- what the tests 1 to 9 say
-entry : (c : tie.After-enter)
-    → let a = c .before .before .before .before .before .before .before .args in
-    enteredVerdict (c .enter .result) ≡ backwardEntry (now (a .set)) (now (a .trace)) (length (now (a .workspace)))
-unfolding wayOf backwardEntry
-entry c = c .enter .ensures .judged
+read-requires : tie.Need-read-requires
+read-requires c κs = search needs
 
--- they passed
-passed : (c : tie.After-entered2)
-    → let a = c .before .before .before .before .before .before .before .before .before .args in
-    backwardEntry (now (a .set)) (now (a .trace)) (length (now (a .workspace))) ≡ pass
-unfolding enteredVerdict
-passed c = sym (entry (c .before .before)) ∙ ap enteredVerdict (c .entered2 .given .1)
+enum-known-found : tie.Need-enum-known-found
+enum-known-found c = search needs
 
-admitted : (c : tie.After-entered2)
-    → let a = c .before .before .before .before .before .before .before .before .before .args in
-    Admitted backward (now (a .set)) (now (a .trace)) (now (a .workspace))
-unfolding backwardEntry
-admitted c = entry-admitted backward _ _ _ (passed c)
+enum-known-found-2 : tie.Need-enum-known-found-2
+enum-known-found-2 c = search needs
 
-sound : (c : tie.After-entered2) → Sound (keywords (now (c .before .before .before .before .before .before .before .before .before .args .set)))
-sound c =
-    let d = c .before .before .before .before .before .before .before .before in
-    bytes-sound (now (d .before .args .set)) (λ i. d .shared-slice-known .given i .fits) (admitted c .file)
+cast-end : tie.Need-cast-end
+cast-end c = search needs
 
-lay-requires : tie.Need-lay-requires
-unfolding wayOf
-lay-requires c κs = let e = c .before .before in (admitted e .file, admitted e .room)
+mul-end : tie.Need-mul-end
+mul-end c = search needs
 
-judge-requires : tie.Need-judge-requires
-unfolding wayOf
-judge-requires c κs =
-    let e = c .before .before .before .before .before in
-    (admitted e .file, e .before .before .enter .ensures .counted _ (e .entered2 .given .1))
+array-share-prefix-list : tie.Need-array-share-prefix-list
+array-share-prefix-list c = opened-room _ _ (list-read c)
 
-enum-known-judged : tie.Need-enum-known-judged
-enum-known-judged c = search needs
+slice-aggregate-scan-words : tie.Need-slice-aggregate-scan-words
+slice-aggregate-scan-words c = sym (length-take-le _ _ (opened-room _ _ (list-read (c .before))))
 
-same-length : tie.Need-same-length
-same-length c = c .before .before .before .before .before .before .lay .kept .0
-
--- what the tests 10 to 14 say
-table : (c : tie.After-judge)
-    → let a = c .before .before .before .before .before .before .before .before .before .before .before .before .before .before .before .args in
-    judgedVerdict (c .judge .result) ≡ tableVerdict (keywords (now (a .set))) (now (a .row-file)) (now (a .byte-file))
-table c = c .judge .ensures
+scan-words-requires : tie.Need-scan-words-requires
+scan-words-requires c κs =
+    let so = opened _ _ (list-read (c .before .before .before)) in
+    (so .words, so .sound)
 
 returns : tie.Need-returns
-unfolding wayOf judgedVerdict
-returns c =
-    let j = c .before .before .before in
-    backward-unsafe (c .before .judged .given .0 .0) (passed (j .before .before .before .before .before .before))
-    (sym (ap judgedVerdict (c .before .judged .given .1)) ∙ table j)
-    (j .before .before .before .lay .ensures .1)
+returns c = backward-unread _ (c .before .found .given .0 .0) (refused _ (c .before .found .given .0 .0) (unread c))
 
-enum-told : tie.Need-enum-told
-enum-told c = search needs
-
--- the rows are laid, and the table is safe
-safe : (c : tie.After-enum-told)
-    → let a = c .before .before .before .before .before .before .before .before .before .before .before .before .before .before .before .before .before .args in
-    tableVerdict (keywords (now (a .set))) (now (a .row-file)) (now (a .byte-file)) ≡ pass
-unfolding judgedVerdict
-safe c = sym (table (c .before .before)) ∙ ap judgedVerdict (c .enum-told .given .1)
-
-prepared : (c : tie.After-enum-told)
-    → let a = c .before .before .before .before .before .before .before .before .before .before .before .before .before .before .before .before .before .args in
-    Prepared (now (a .set)) (now (a .trace)) (now (a .row-file)) (now (a .byte-file)) (c .before .before .before .before .before .lay .last .0)
-unfolding wayOf
-prepared c =
-    let e = c .before .before .before .before .before .before .before .before in
-    backward-prepared (admitted e) (sound e)
-    (λ b m. mem-below opcodes m (λ i. e .before .before .before .before .before .before .before .shared-slice-known2 .given i .fits))
-    (safe c)
-    (c .before .before .before .before .before .lay .ensures .1)
-
-run-requires : tie.Need-run-requires
-run-requires c κs = prepared (c .before .before)
-
-cast-t26 : tie.Need-cast-t26
-cast-t26 c =
-    let r = c .before .before .before .before in
-    let e = r .before .before .before .before .before .before .before .before .before .before .before in
-    omega (arith, count-few (admitted e) (sound e) (r .run .ensures))
-
-cast-t27 : tie.Need-cast-t27
-cast-t27 c =
-    let r = c .before .before .before .before .before in
-    let e = r .before .before .before .before .before .before .before .before .before .before .before in
-    omega (arith, questions-few (admitted e) (sound e) (r .run .ensures))
-
-returns-2 : tie.Need-returns-2
-unfolding enteredVerdict
-returns-2 c = backward-refused (c .before .entered .given .0 .0) (sym (ap enteredVerdict (c .before .entered .given .1)) ∙ entry (c .before .before .before))
+same-length : tie.Need-same-length
+same-length c = search needs
 
 same-length-2 : tie.Need-same-length-2
-same-length-2 c = c .before .before .before .before .before .before .before .before .before .before .before .before .before .lay .kept .0
+same-length-2 c = search needs
 
-same-length-3 : tie.Need-same-length-3
-same-length-3 c = c .before .before .before .before .before .run .kept .1 .1 .1 .1 .1 .0
-
-returns-3 : tie.Need-returns-3
-unfolding wayOf
-returns-3 c =
-    let r = c .before .before .before .before .before in
-    let t = r .before .before .before in
-    backward-found (passed (t .before .before .before .before .before .before .before .before)) (safe t) (t .before .before .before .before .before .lay .ensures .1) (r .run .ensures)
+returns-2 : tie.Need-returns-2
+returns-2 c =
+    let d = c .before .before .before .before in
+    backward-read (opened _ _ (list-read (d .before .before .before .before))) (d .scan-words .ensures)
 
 pub scan-spec : {M : Type 1} → statement M
 scan-spec =
     tie.close
     (tie.spec
-    enter-requires
-    enum-known-entered
-    enum-known-entered-2
-    lay-requires
-    judge-requires
-    enum-known-judged
-    same-length
+    slice-aggregate-read
+    read-requires
+    enum-known-found
+    enum-known-found-2
+    cast-end
+    mul-end
+    array-share-prefix-list
+    slice-aggregate-scan-words
+    scan-words-requires
     returns
-    enum-told
-    run-requires
-    cast-t26
-    cast-t27
-    returns-2
+    same-length
     same-length-2
-    same-length-3
-    returns-3)
+    returns-2)

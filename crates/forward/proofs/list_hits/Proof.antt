@@ -6,24 +6,28 @@ use mathlib.Core.Logic.{⊎-elim}
 use mathlib.Core.List.{List, [], _∷_, _++_}
 use lib.ListN.{length, length-append}
 use denote.Ref.{now}
-use Rattle.forward.specs.Running.{Prepared, Ending}
+use Rattle.forward.specs.Progress.{Equipped, Ending}
 use Rattle.forward.proofs.Endings.{stringAt, Listing, at-state, row-room, dictionary-shorter, listing-own, listing-none, listing-key, listing-hit, listing-more, listing-all}
 use Rattle.forward.proofs.list_hits.Statement.{statement}
 use Rattle.forward.proofs.list_hits.Tie as tie
 
 abbrev Inv-loop : tie.InvT-loop
-Inv-loop ws set hits₀ row end next₀ at₀ hits next at =
+Inv-loop ws words hits₀ row end next₀ at₀ hits next at =
     (length hits ≡ length hits₀)
-    × ((u : List ℕ) (b : ℕ) (old : List ℕ) → Ending set u b old ws row end next₀ hits₀ → Listing set (u ++ (b ∷ [])) old at next hits)
+    × ((u : List ℕ) (b : ℕ) (old : List ℕ)
+    → Ending words u b old ws row end next₀ hits₀
+    → Listing words (u ++ (b ∷ [])) old at next hits)
 
 abbrev μ-loop : tie.MeasureT-loop
-μ-loop ws set hits₀ row end next₀ at₀ hits next at = length (stringAt set at)
+μ-loop ws words hits₀ row end next₀ at₀ hits next at = length (stringAt words at)
 
 key-requires : tie.Need-key-requires Inv-loop μ-loop
-key-requires c κs = let e = c .before .before .before .pre .3 in row-room (e .prepared) _ (at-state e)
+key-requires c κs = let e = c .before .before .before .pre .3 in row-room (e .equipped) _ (at-state e)
 
 dictionary-requires : tie.Need-dictionary-requires Inv-loop μ-loop
-dictionary-requires c κs = let e = c .before .before .before .before .before .pre .3 in row-room (e .prepared) _ (at-state e)
+dictionary-requires c κs =
+    let e = c .before .before .before .before .before .pre .3 in
+    row-room (e .equipped) _ (at-state e)
 
 loop-holds : tie.Need-loop-holds Inv-loop μ-loop
 loop-holds c = (
@@ -36,44 +40,47 @@ loop-holds c = (
 )
 
 -- what the loop's head knows, at what the caller says was read
-prepared : (c : tie.At-loop Inv-loop μ-loop)
+equipped : (c : tie.At-loop Inv-loop μ-loop)
     → let a = c .before .before .before .before .before .before .args in
-    Prepared (now (a .set)) (now (a .ws))
-prepared c = c .before .before .before .before .before .before .pre .3 .prepared
+    Equipped (now (a .words)) (now (a .ws))
+equipped c = c .before .before .before .before .before .before .pre .3 .equipped
 
 listing : (c : tie.At-loop Inv-loop μ-loop)
-    → let p = c .before .before .before .before .before .before .pre in
-    Listing (now (c .before .before .before .before .before .before .args .set)) (p .0 ++ (p .1 ∷ [])) (p .2) (c .loop .at) (c .loop .next) (c .loop .hits)
-listing c = let p = c .before .before .before .before .before .before .pre in c .loop .inv .1 (p .0) (p .1) (p .2) (p .3)
+    → let d = c .before .before .before .before .before .before in
+    Listing (now (d .args .words)) (d .pre .0 ++ (d .pre .1 ∷ [])) (d .pre .2) (c .loop .at) (c .loop .next) (c .loop .hits)
+listing c =
+    let p = c .before .before .before .before .before .before .pre in
+    c .loop .inv .1 (p .0) (p .1) (p .2) (p .3)
 
 key-requires-2 : tie.Need-key-requires-2 Inv-loop μ-loop
-key-requires-2 c κs = row-room (prepared (c .before)) (c .before .loop .at) (listing (c .before) .within)
+key-requires-2 c κs = row-room (equipped (c .before)) (c .before .loop .at) (listing (c .before) .within)
 
-sub-k : tie.Need-sub-k Inv-loop μ-loop
-sub-k c =
+sub-number : tie.Need-sub-number Inv-loop μ-loop
+sub-number c =
     let d = c .before .before in
-    rw (c .key2 .ensures .0) (listing-key (prepared d) (listing d) (c .before .loop-test .taken))
+    rw (c .key2 .ensures .0) (listing-key (equipped d) (listing d) (c .before .loop-test .taken))
 
 list-requires : tie.Need-list-requires Inv-loop μ-loop
 list-requires c κs =
     let d = c .before .before .before in
-    let p = d .before .before .before .before .before .before .pre in (
+    let p = d .before .before .before .before .before .before .pre in
+    let some = c .before .before .loop-test .taken in (
       listing d .done,
       p .2,
-      listing-hit (prepared d) (listing d) (c .before .before .loop-test .taken) (c .before .key2 .ensures .0) (p .3 .ended)
+      listing-hit (equipped d) (listing d) some (c .before .key2 .ensures .0) (p .3 .ended)
           (omega (arith, p .3 .ended, p .3 .near, length-append (p .0) (p .1 ∷ []))),
     )
 
 dictionary-requires-2 : tie.Need-dictionary-requires-2 Inv-loop μ-loop
 dictionary-requires-2 c κs =
     let d = c .before .before .before .before .before .before in
-    row-room (prepared d) (d .loop .at) (listing d .within)
+    row-room (equipped d) (d .loop .at) (listing d .within)
 
 loop-less : tie.Need-loop-less Inv-loop μ-loop
 loop-less c =
     let d = c .before .before .before .before .before .before .before in
-    rw (c .dictionary2 .ensures .0)
-    (dictionary-shorter (prepared d) (d .loop .at) (listing d .within) (c .before .before .before .before .before .before .loop-test .taken))
+    let some = c .before .before .before .before .before .before .loop-test .taken in
+    rw (c .dictionary2 .ensures .0) (dictionary-shorter (equipped d) (d .loop .at) (listing d .within) some)
 
 loop-again : tie.Need-loop-again Inv-loop μ-loop
 loop-again c =
@@ -84,16 +91,18 @@ loop-again c =
       called .kept .1 .0 ∙ d .loop .inv .0,
       λ u b old e.
           let l = d .loop .inv .1 u b old e in
-          let hitting = listing-hit (e .prepared) l some key (e .ended) (omega (arith, e .ended, e .near, length-append u (b ∷ []))) in
+          let hitting =
+          listing-hit (e .equipped) l some key (e .ended)
+          (omega (arith, e .ended, e .near, length-append u (b ∷ []))) in
           rw (c .dictionary2 .ensures .0)
-          (listing-more (e .prepared) l some key (e .ended) (called .ensures (l .done) old hitting)),
+          (listing-more (e .equipped) l some key (e .ended) (called .ensures (l .done) old hitting)),
     )
 
 same-length : tie.Need-same-length Inv-loop μ-loop
 same-length c = c .before .loop .inv .0
 
 returns : tie.Need-returns Inv-loop μ-loop
-returns c = λ u b old e. listing-all (e .prepared) (rw (c .loop-test .left) at (c .before .loop .inv .1 u b old e))
+returns c = λ u b old e. listing-all (e .equipped) (rw (c .loop-test .left) at (c .before .loop .inv .1 u b old e))
 
 pub list-hits-spec : {M : Type 1} → statement M
 list-hits-spec =
@@ -105,7 +114,7 @@ list-hits-spec =
     dictionary-requires
     loop-holds
     key-requires-2
-    sub-k
+    sub-number
     list-requires
     dictionary-requires-2
     loop-less

@@ -6,20 +6,22 @@ use mathlib.Core.List.{List, _++_}
 use lib.ListN.{length, take}
 use lib.Seq.{take-all}
 use denote.Ref.{now}
-use Rattle.rules.specs.Sets.{keywords}
-use Rattle.forward.specs.Running.{Scanning, Going}
+use Rattle.words.specs.Entries.{keywordsIn}
+use Rattle.forward.specs.Progress.{Scanning, Going}
 use Rattle.forward.proofs.States.{bytes-none, bytes-going, bytes-more}
 use Rattle.forward.proofs.proceed.Statement.{statement}
 use Rattle.forward.proofs.proceed.Tie as tie
 
 abbrev Inv-loop : tie.InvT-loop
-Inv-loop ws set trace hits₀ next₀ i₀ hits next i =
+Inv-loop ws words trace hits₀ next₀ i₀ hits next i =
     (i ≤ length trace)
     × (length hits ≡ length hits₀)
-    × ((u : List ℕ) (old : List ℕ) → Going set u old ws (length trace) next₀ hits₀ → Scanning (keywords set) (u ++ take i trace) old next hits)
+    × ((u : List ℕ) (old : List ℕ)
+    → Going words u old ws (length trace) next₀ hits₀
+    → Scanning (keywordsIn words) (u ++ take i trace) old next hits)
 
 abbrev μ-loop : tie.MeasureT-loop
-μ-loop ws set trace hits₀ next₀ i₀ hits next i = length trace - i
+μ-loop ws words trace hits₀ next₀ i₀ hits next i = length trace - i
 
 loop-holds : tie.Need-loop-holds Inv-loop μ-loop
 loop-holds c = (omega arith, refl, λ u old g. bytes-none (now (c .before .before .before .before .args .trace)) g)
@@ -34,8 +36,11 @@ step-requires : tie.Need-step-requires Inv-loop μ-loop
 step-requires c κs =
     let d = c .before .before .before in
     let p = d .before .before .before .before .before .pre in
-    let scanning = d .loop .inv .2 (p .0) (p .1) (p .2) in
-    (p .0 ++ take (d .loop .i) (now (d .before .before .before .before .before .args .trace)), p .1, bytes-going _ (p .2) (d .loop .i) (c .before .before .loop-test .taken) scanning)
+    let scanning = d .loop .inv .2 (p .0) (p .1) (p .2) in (
+      p .0 ++ take (d .loop .i) (now (d .before .before .before .before .before .args .trace)),
+      p .1,
+      bytes-going _ (p .2) (d .loop .i) (c .before .before .loop-test .taken) scanning,
+    )
 
 add-i : tie.Need-add-i Inv-loop μ-loop
 add-i c = omega arith

@@ -1,124 +1,83 @@
--- The tests decide; where they pass, the workspace holds the rows, and the scan reads the whole trace from nothing on.
-use native.Mathlib.Omega.{arith}
-use mathlib.Core.Path.{_≡_, sym, _∙_, ap}
-use mathlib.Core.List.{[]}
-use lib.ListN.{length}
+-- The set's own tests decide; where they pass, its words are scanned.
+use mathlib.Core.Path.{sym}
+use lib.Seq.{length-take-le}
 use denote.Ref.{now}
+use Rattle.rules.specs.declared.Counted.{Counted}
+use Rattle.sets.specs.Reading.{Read}
+use Rattle.sets.proofs.Opened.{opened, opened-room, refused}
+use Rattle.forward.proofs.Outcomes.{forward-read, forward-unread}
 use borrow.Author.Needs.{needs}
-use Rattle.rules.specs.Sets.{keywords}
-use Rattle.rules.specs.Refusals.{pass}
-use Rattle.rules.specs.Promises.{forwardVerdict}
-use Rattle.rules.specs.Sound.{Sound}
-use Rattle.rules.specs.Rows.{forward}
-use Rattle.rules.proofs.Bytes.{bytes-sound}
-use Rattle.sets.specs.Words.{wayOf}
-use Rattle.rows.specs.Entry.{enteredVerdict}
-use Rattle.forward.specs.Running.{Scanning, Going}
-use Rattle.rows.proofs.Admitted.{Admitted}
-use Rattle.forward.proofs.Outcomes.{forward-judged, forward-admitted, forward-refused, start-going, count-few, questions-few, forward-found}
 use Rattle.forward.proofs.scan.Statement.{statement}
 use Rattle.forward.proofs.scan.Tie as tie
 
-enter-requires : tie.Need-enter-requires
-enter-requires c κs = search needs
+-- what the reader answered: a refusal, or how many keywords
+unread : (c : tie.After-known-told)
+    → let r = c .before .before .before .before in
+    Read (now (r .before .before .before .before .before .before .args .set)) (Counted.Refused (c .before .found .given .0 .0)) (r .read .last .1 .0)
+unread c = rw (c .before .found .given .1) at (c .before .before .before .before .read .ensures)
 
-enum-known-entered : tie.Need-enum-known-entered
-enum-known-entered c = search needs
+list-read : (c : tie.After-known-told2)
+    → let r = c .before .before .before .before in
+    Read (now (r .before .before .before .before .before .before .args .set)) (Counted.Number (c .before .found2 .given .0 .0)) (r .read .last .1 .0)
+list-read c = rw (c .before .found2 .given .1) at (c .before .before .before .before .read .ensures)
 
--- what the tests say
-judged : (c : tie.After-enter)
-    → let a = c .before .before .before .before .before .args in
-    enteredVerdict (c .enter .result) ≡ forwardVerdict (now (a .set)) (now (a .trace)) (length (now (a .workspace)))
-unfolding wayOf
-judged c = let a = c .before .before .before .before .before .args in forward-judged (now (a .set)) (now (a .trace)) _ (c .enter .ensures)
+slice-aggregate-read : tie.Need-slice-aggregate-read
+slice-aggregate-read c = search needs
+
+read-requires : tie.Need-read-requires
+read-requires c κs = search needs
+
+enum-known-found : tie.Need-enum-known-found
+enum-known-found c = search needs
+
+enum-known-found-2 : tie.Need-enum-known-found-2
+enum-known-found-2 c = search needs
+
+cast-end : tie.Need-cast-end
+cast-end c = search needs
+
+mul-end : tie.Need-mul-end
+mul-end c = search needs
+
+array-share-prefix-list : tie.Need-array-share-prefix-list
+array-share-prefix-list c = opened-room _ _ (list-read c)
+
+slice-aggregate-scan-words : tie.Need-slice-aggregate-scan-words
+slice-aggregate-scan-words c = sym (length-take-le _ _ (opened-room _ _ (list-read (c .before))))
+
+scan-words-requires : tie.Need-scan-words-requires
+scan-words-requires c κs =
+    let so = opened _ _ (list-read (c .before .before .before)) in
+    (so .words, so .sound)
 
 returns : tie.Need-returns
-unfolding enteredVerdict
-returns c = forward-refused (c .before .entered .given .0 .0) (sym (ap enteredVerdict (c .before .entered .given .1)) ∙ judged (c .before .before .before))
-
-enum-told : tie.Need-enum-told
-enum-told c = search needs
-
--- they passed
-passed : (c : tie.After-enum-told)
-    → let a = c .before .before .before .before .before .before .before .args in
-    forwardVerdict (now (a .set)) (now (a .trace)) (length (now (a .workspace))) ≡ pass
-unfolding enteredVerdict
-passed c = sym (judged (c .before .before)) ∙ ap enteredVerdict (c .enum-told .given .1)
-
-admitted : (c : tie.After-enum-told)
-    → let a = c .before .before .before .before .before .before .before .args in
-    Admitted forward (now (a .set)) (now (a .trace)) (now (a .workspace))
-admitted c = forward-admitted _ _ _ (passed c)
-
-sound : (c : tie.After-enum-told) → Sound (keywords (now (c .before .before .before .before .before .before .before .args .set)))
-sound c =
-    let d = c .before .before .before .before .before .before in
-    bytes-sound (now (d .before .args .set)) (λ i. d .shared-slice-known .given i .fits) (admitted c .file)
-
-lay-requires : tie.Need-lay-requires
-unfolding wayOf
-lay-requires c κs = (admitted (c .before) .file, admitted (c .before) .room)
-
-fresh-requires : tie.Need-fresh-requires
-fresh-requires c κs = search needs
-
--- the rows are laid, and nothing is read
-going : (c : tie.After-fresh)
-    → let a = c .before .before .before .before .before .before .before .before .before .before .before .before .before .before .args in
-    Going (now (a .set)) [] (now (a .hits)) (c .before .before .before .before .before .lay .last .0) (length (now (a .trace))) (c .fresh .result) (now (a .hits))
-unfolding wayOf
-going c =
-    let d = c .before .before .before .before .before .before .before in
-    start-going (admitted d) (sound d) (c .before .before .before .before .before .lay .ensures .1) (c .fresh .ensures _ _)
-
-proceed-requires : tie.Need-proceed-requires
-proceed-requires c κs = ([], _, going c)
-
--- the whole trace is read
-scanned : (c : tie.After-proceed)
-    → let a = c .before .before .before .before .before .before .before .before .before .before .before .before .before .before .before .args in
-    Scanning (keywords (now (a .set))) (now (a .trace)) (now (a .hits)) (c .proceed .result) (c .proceed .last .1 .1 .1 .0)
-scanned c = c .proceed .ensures [] _ (going (c .before))
-
-cast-t18 : tie.Need-cast-t18
-cast-t18 c =
-    let d = c .before .before .before in
-    let e = d .before .before .before .before .before .before .before .before in
-    omega (arith, count-few (admitted e) (sound e) (scanned d))
-
-cast-t19 : tie.Need-cast-t19
-cast-t19 c =
-    let d = c .before .before .before .before in
-    let e = d .before .before .before .before .before .before .before .before in
-    omega (arith, questions-few (admitted e) (sound e) (scanned d))
+returns c = forward-unread _ (c .before .found .given .0 .0) (refused _ (c .before .found .given .0 .0) (unread c))
 
 same-length : tie.Need-same-length
-same-length c = c .before .before .before .before .before .before .before .before .before .before .lay .kept .0
+same-length c = search needs
 
 same-length-2 : tie.Need-same-length-2
-same-length-2 c = c .before .before .before .before .proceed .kept .1 .1 .1 .0
+same-length-2 c = search needs
 
 returns-2 : tie.Need-returns-2
-unfolding wayOf
 returns-2 c =
     let d = c .before .before .before .before in
-    let e = d .before .before .before .before .before .before .before .before in
-    forward-found (passed e) (d .before .before .before .before .before .before .lay .ensures .1) (scanned d)
+    forward-read (opened _ _ (list-read (d .before .before .before .before))) (d .scan-words .ensures)
 
 pub scan-spec : {M : Type 1} → statement M
 scan-spec =
     tie.close
     (tie.spec
-    enter-requires
-    enum-known-entered
+    slice-aggregate-read
+    read-requires
+    enum-known-found
+    enum-known-found-2
+    cast-end
+    mul-end
+    array-share-prefix-list
+    slice-aggregate-scan-words
+    scan-words-requires
     returns
-    enum-told
-    lay-requires
-    fresh-requires
-    proceed-requires
-    cast-t18
-    cast-t19
     same-length
     same-length-2
     returns-2)

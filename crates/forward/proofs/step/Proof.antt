@@ -12,16 +12,17 @@ use Rattle.forward.proofs.step.Tie as tie
 advance-requires : tie.Need-advance-requires
 advance-requires c κs =
     let p = c .before .before .before .pre in
-    (rowsIn (now (c .before .before .before .args .set)), longestWord, state-ready (p .2 .prepared) (p .0) _ (p .2 .scanning .state))
+    let ready = state-ready (p .2 .equipped) (p .0) _ (p .2 .scanning .state) in
+    (rowsIn (now (c .before .before .before .args .words)), longestWord, ready)
 
--- where the step leads, over the rows of the set
+-- where the step leads, over the rows of the keywords
 moved : (c : tie.After-advance)
     → let a = c .before .before .before .before .args in
-    Moved (rowsIn (now (a .set))) (getD (rowsIn (now (a .set))) (a .run .row) []) (a .c) (c .advance .result)
+    Moved (rowsIn (now (a .words))) (getD (rowsIn (now (a .words))) (a .run .row) []) (a .c) (c .advance .result)
 moved c =
     let p = c .before .before .before .before .pre in
-    c .advance .ensures (rowsIn (now (c .before .before .before .before .args .set))) longestWord
-    (state-ready (p .2 .prepared) (p .0) _ (p .2 .scanning .state))
+    c .advance .ensures (rowsIn (now (c .before .before .before .before .args .words))) longestWord
+    (state-ready (p .2 .equipped) (p .0) _ (p .2 .scanning .state))
 
 add-end : tie.Need-add-end
 add-end c =
@@ -45,7 +46,8 @@ same-length c = c .before .before .list-hits .kept .1 .1 .0
 returns : tie.Need-returns
 returns c = λ u old g.
     let d = c .before .before .before .before .before .before .before in
-    step-read g (moved d) (c .before .before .list-hits .ensures u (d .before .before .before .before .args .c) old (step-ending g (moved d)))
+    let byte = d .before .before .before .before .args .c in
+    step-read g (moved d) (c .before .before .list-hits .ensures u byte old (step-ending g (moved d)))
 
 pub step-spec : {M : Type 1} → statement M
 step-spec =

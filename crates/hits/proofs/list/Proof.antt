@@ -1,15 +1,15 @@
 -- The hit is counted and charged, and stored at the two places behind those of the hits before it, where there are two.
 use Prim.Native.Nat.{ℕ, _+_}
 use native.Mathlib.Omega.{arith}
-use mathlib.Core.Path.{refl, _∙_, ap}
+use mathlib.Core.Path.{_≡_, refl, _∙_, ap}
 use mathlib.Core.Logic.{⊎-elim}
 use lib.ListN.{length, length-set}
 use denote.Ref.{now}
 use borrow.Author.Needs.{needs}
-use Rattle.rules.specs.Sets.{keywordOf, keywordAt}
 use Rattle.rules.specs.Hits.{Hit}
+use Rattle.words.specs.Entries.{keywordsIn}
 use Rattle.hits.specs.Tallies.{hitOf}
-use Rattle.hits.proofs.Tallying.{tallied-more, tallied-full}
+use Rattle.hits.proofs.Tallying.{hitting-named, hitting-small, hitting-figure, hitting-charged, tallied-more, tallied-full}
 use Rattle.hits.proofs.list.Statement.{statement}
 use Rattle.hits.proofs.list.Tie as tie
 
@@ -26,7 +26,7 @@ slice-write-hits : tie.Need-slice-write-hits
 slice-write-hits c = search needs
 
 cast-hits-2 : tie.Need-cast-hits-2
-cast-hits-2 c = search needs
+cast-hits-2 c = omega (arith, hitting-small (c .before .before .before .pre .2))
 
 mul-hits-3 : tie.Need-mul-hits-3
 mul-hits-3 c = search needs
@@ -43,28 +43,46 @@ slice-write-hits-2 c = simp length-set (omega arith)
 add-listed : tie.Need-add-listed
 add-listed c = search needs
 
-add-t8 : tie.Need-add-t8
-add-t8 c = search needs
+place-of-requires : tie.Need-place-of-requires
+place-of-requires c κs =
+    let h = c .before .before .before .pre .2 in
+    record { words = h .words; sound = h .sound; some = h .named }
+
+add-t9 : tie.Need-add-t9
+add-t9 c = search needs
 
 energy-of-requires : tie.Need-energy-of-requires
-energy-of-requires c κs = search needs
+energy-of-requires c κs = c .before .place-of .ensures .0
 
-add-t18 : tie.Need-add-t18
-add-t18 c = search needs
+-- the energy found is the keyword's, and one that a keyword may have
+charged : (c : tie.After-energy-of)
+    → let a = c .before .before .before .before .before .before .args in
+    c .energy-of .result ≡ hitOf (keywordsIn (now (a .words))) (a .end) (a .number) .keyword .energy
+charged c =
+    let d = c .before .before in
+    let h = d .before .before .before .before .pre .2 in
+    hitting-charged h (d .place-of .result) (c .energy-of .ensures .0) (d .place-of .ensures .1)
+
+add-t19 : tie.Need-add-t19
+add-t19 c =
+    let h = c .before .before .before .before .before .before .before .pre .2 in
+    omega (arith, charged (c .before), hitting-figure h, h .tallied .charged)
 
 same-length : tie.Need-same-length
 same-length c =
-    ⊎-elim (λ w. ap length (w .1) ∙ simp length-set) (λ w. ap length (w .1)) (c .before .before .before .if1 .came)
+    ⊎-elim (λ w. ap length (w .1) ∙ simp length-set) (λ w. ap length (w .1)) (c .before .before .before .before .if1 .came)
 
 returns : tie.Need-returns
-unfolding keywordAt keywordOf hitOf
+unfolding hitOf
 returns c = λ done old h.
-    let a = c .before .before .before .before .before .before .args in
-    let hit : Hit = hitOf (now (a .set)) (a .end) (a .k) in
-    let charge = ap (λ (e : ℕ). a .tally .energy + e) (c .before .energy-of .ensures .0) in
-    ⊎-elim (λ w. tallied-more (h .tallied) hit _ refl charge (w .0 .taken) (w .2) (w .1))
+    let j = c .before .before .before .before in
+    let a = j .before .before .before .args in
+    let hit : Hit = hitOf (keywordsIn (now (a .words))) (a .end) (a .number) in
+    let charge = ap (λ (e : ℕ). a .tally .energy + e) (charged (c .before)) in
+    let number = hitting-named h in
+    ⊎-elim (λ w. tallied-more (h .tallied) hit _ refl charge (w .0 .taken) (w .2) (rw number (w .1)))
     (λ w. tallied-full (h .tallied) hit _ refl charge (w .0 .left) (w .2) (w .1))
-    (c .before .before .before .if1 .came)
+    (j .if1 .came)
 
 pub list-spec : {M : Type 1} → statement M
 list-spec =
@@ -80,8 +98,9 @@ list-spec =
     mul-hits-4
     slice-write-hits-2
     add-listed
-    add-t8
+    place-of-requires
+    add-t9
     energy-of-requires
-    add-t18
+    add-t19
     same-length
     returns)

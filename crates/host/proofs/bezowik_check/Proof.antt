@@ -14,8 +14,8 @@ returns c =
 check-requires : tie.Need-check-requires
 check-requires c κs = search needs
 
-from-tabled-requires : tie.Need-from-tabled-requires
-from-tabled-requires c κs = search needs
+from-counted-requires : tie.Need-from-counted-requires
+from-counted-requires c κs = search needs
 
 write-requires : tie.Need-write-requires
 write-requires c κs = search needs
@@ -33,7 +33,7 @@ returns-2 c =
     let checked = told .before .before .before in
     let other = checked .before .before in
     let a = other .before .before .before .before .before .before .args in
-    check-called (now (a .set)) (other .if1 .left) (toldOf (told .from-tabled .result)) (told .from-tabled .ensures)
+    check-called (now (a .set)) (other .if1 .left) (toldOf (told .from-counted .result)) (told .from-counted .ensures)
     (written .write .ensures)
     (checked .check .ensures)
 
@@ -43,7 +43,7 @@ bezowik-check-spec =
     (tie.spec
     returns
     check-requires
-    from-tabled-requires
+    from-counted-requires
     write-requires
     same-length
     same-length-2

@@ -14,8 +14,8 @@ returns c =
 make-requires : tie.Need-make-requires
 make-requires c κs = search needs
 
-from-tabled-requires : tie.Need-from-tabled-requires
-from-tabled-requires c κs = search needs
+from-counted-requires : tie.Need-from-counted-requires
+from-counted-requires c κs = search needs
 
 write-requires : tie.Need-write-requires
 write-requires c κs = search needs
@@ -39,7 +39,7 @@ returns-2 c =
     let made = told .before .before .before .before .before .before .before in
     let other = made .before .before .before .before in
     let a = other .before .before .before .before .before .before .args in
-    make-called (now (a .set)) (other .if1 .left) (toldOf (told .from-tabled .result)) (told .from-tabled .ensures)
+    make-called (now (a .set)) (other .if1 .left) (toldOf (told .from-counted .result)) (told .from-counted .ensures)
     (written .write .ensures)
     (made .make .ensures)
 
@@ -49,7 +49,7 @@ bezowik-make-spec =
     (tie.spec
     returns
     make-requires
-    from-tabled-requires
+    from-counted-requires
     write-requires
     same-length
     same-length-2

@@ -1,16 +1,27 @@
--- The tests decide, and where they pass the rows are laid.
-use mathlib.Core.Path.{subst}
+-- The tests decide; where they pass, the workspace holds the rows.
+use mathlib.Core.Path.{_≡_, sym, _∙_, ap}
 use lib.ListN.{length}
-use borrow.Author.Needs.{needs}
 use denote.Ref.{now}
-use Rattle.rules.specs.Rows.{backward}
-use Rattle.sets.specs.Words.{wayOf}
-use Rattle.rows.specs.declared.enter.Entered.{Entered}
-use Rattle.rows.specs.declared.enter.Entered.the-variants.{Rows}
-use Rattle.rows.specs.Entry.{Admission}
-use Rattle.skips.proofs.Outcomes.{Admitted, table-admitted, begun-refused, begun-rows, entry-passed}
+use Rattle.rules.specs.declared.Counted.{Counted}
+use Rattle.rules.specs.Rows.{backward, rowsOf}
+use Rattle.rules.specs.Refusals.{entryVerdict}
+use Rattle.rules.specs.Answers.{toldCount, toldCounted}
+use Rattle.rules.specs.Promises.{answerOr}
+use Rattle.words.specs.Read.{wayOf}
+use Rattle.words.specs.Entries.{keywordsIn}
+use Rattle.skips.proofs.Outcomes.{begun-refused, begun-room, begun-rows}
+use borrow.Author.Needs.{needs}
 use Rattle.skips.proofs.begin.Statement.{statement}
 use Rattle.skips.proofs.begin.Tie as tie
+
+-- what the tests answered
+told : (c : tie.After-enter) (r : Counted)
+    → c .enter .result ≡ r
+    → let a = c .before .before .before .args in
+    let ks = keywordsIn (now (a .words)) in
+    toldCounted r ≡ answerOr (toldCount (length (rowsOf backward ks))) (entryVerdict backward ks 0 (length (now (a .workspace))))
+unfolding wayOf
+told c r e = sym (ap toldCounted e) ∙ c .enter .ensures
 
 enter-requires : tie.Need-enter-requires
 enter-requires c κs = search needs
@@ -21,32 +32,22 @@ enum-known-entered c = search needs
 enum-known-entered-2 : tie.Need-enum-known-entered-2
 enum-known-entered-2 c = search needs
 
--- the tests passed
-passed : (c : tie.After-known-told2)
-    → let a = c .before .before .before .before .before .before .args in
-    Admission backward (now (a .set)) 0 (length (now (a .workspace))) (Rows (c .before .entered2 .given .0 .0))
-unfolding wayOf
-passed c =
-    let a = c .before .before .before .before .before .before .args in
-    subst (λ (r : Entered). Admission backward (now (a .set)) 0 (length (now (a .workspace))) r) (c .before .entered2 .given .1)
-    (c .before .before .before .enter .ensures)
-
-admitted : (c : tie.After-known-told2)
-    → let a = c .before .before .before .before .before .before .args in
-    Admitted (now (a .set)) (now (a .workspace))
-admitted c = table-admitted _ _ (entry-passed (passed c))
-
 lay-requires : tie.Need-lay-requires
 unfolding wayOf
-lay-requires c κs = (admitted (c .before) .file, admitted (c .before) .room)
+lay-requires c κs =
+    let d = c .before .before .before .before in
+    let start = d .before .before .before in
+    let n = c .before .before .entered2 .given .0 .0 in
+    let e = told d (Counted.Number n) (c .before .before .entered2 .given .1) in
+    (start .pre .0, start .pre .1, begun-room (keywordsIn (now (start .args .words))) (now (start .args .workspace)) n e .fits)
 
 returns : tie.Need-returns
-unfolding wayOf
 returns c =
-    let a = c .before .before .before .before .before .before .args in
-    begun-refused (c .before .entered .given .0 .0)
-    (subst (λ (r : Entered). Admission backward (now (a .set)) 0 (length (now (a .workspace))) r) (c .before .entered .given .1)
-    (c .before .before .before .enter .ensures))
+    let d = c .before .before .before in
+    let start = d .before .before .before in
+    let fault = c .before .entered .given .0 .0 in
+    begun-refused (keywordsIn (now (start .args .words))) (now (start .args .workspace)) fault
+    (told d (Counted.Refused fault) (c .before .entered .given .1))
 
 same-length : tie.Need-same-length
 same-length c = search needs
@@ -54,11 +55,22 @@ same-length c = search needs
 returns-2 : tie.Need-returns-2
 unfolding wayOf
 returns-2 c =
-    let lay = c .before .before in
-    let d = lay .before .before in
-    begun-rows (d .before .entered2 .given .0 .0) (passed d) (lay .lay .ensures .1)
+    let l = c .before .before in
+    let d = l .before .before .before .before .before in
+    let start = d .before .before .before in
+    let n = l .before .before .before .entered2 .given .0 .0 in
+    begun-rows (keywordsIn (now (start .args .words))) (now (start .args .workspace)) n
+    (told d (Counted.Number n) (l .before .before .before .entered2 .given .1))
+    (l .lay .ensures .1)
 
 pub begin-spec : {M : Type 1} → statement M
 begin-spec =
     tie.close
-    (tie.spec enter-requires enum-known-entered enum-known-entered-2 lay-requires returns same-length returns-2)
+    (tie.spec
+    enter-requires
+    enum-known-entered
+    enum-known-entered-2
+    lay-requires
+    returns
+    same-length
+    returns-2)

@@ -1,86 +1,79 @@
--- What the first tests say, and then the table's own: the first fault is the answer.
-use native.Mathlib.Omega.{arith}
-use mathlib.Core.Path.{sym, _∙_, ap, refl}
-use borrow.Author.Needs.{needs}
+-- The set's own tests decide; where they pass, the job is done for its words.
+use mathlib.Core.Path.{sym}
+use lib.Seq.{length-take-le}
 use denote.Ref.{now}
-use Rattle.rows.specs.declared.enter.Entered.the-variants.{Rows}
-use Rattle.skips.specs.Beginning.{Begun}
-use Rattle.skips.specs.Judging.{judgedVerdict}
-use Rattle.skips.proofs.Outcomes.{begun-as, begun-admitted, check-entry, check-refused, check-passed}
+use Rattle.rules.specs.declared.Counted.{Counted}
+use Rattle.sets.specs.Reading.{Read}
+use Rattle.sets.proofs.Opened.{opened, opened-room, refused}
+use Rattle.skips.proofs.Outcomes.{check-read, check-unread}
+use borrow.Author.Needs.{needs}
 use Rattle.skips.proofs.check.Statement.{statement}
 use Rattle.skips.proofs.check.Tie as tie
 
-begin-requires : tie.Need-begin-requires
-begin-requires c κs = search needs
+-- what the reader answered: a refusal, or how many keywords
+unread : (c : tie.After-known-told)
+    → let r = c .before .before .before .before in
+    Read (now (r .before .before .before .before .before .before .args .set)) (Counted.Refused (c .before .found .given .0 .0)) (r .read .last .1 .0)
+unread c = rw (c .before .found .given .1) at (c .before .before .before .before .read .ensures)
 
-enum-known-begun : tie.Need-enum-known-begun
-enum-known-begun c = search needs
+list-read : (c : tie.After-known-told2)
+    → let r = c .before .before .before .before in
+    Read (now (r .before .before .before .before .before .before .args .set)) (Counted.Number (c .before .found2 .given .0 .0)) (r .read .last .1 .0)
+list-read c = rw (c .before .found2 .given .1) at (c .before .before .before .before .read .ensures)
 
-enum-known-begun-2 : tie.Need-enum-known-begun-2
-enum-known-begun-2 c = search needs
+slice-aggregate-read : tie.Need-slice-aggregate-read
+slice-aggregate-read c = search needs
 
--- the tests passed, and the rows are laid and counted
-begun : (c : tie.After-known-told2)
-    → let d = c .before .before .before .before .before in
-    let a = d .before .before .before .before .before .before .args in
-    Begun (now (a .set)) (now (a .workspace)) (Rows (c .before .begun2 .given .0 .0)) (d .begin .last .1 .0)
-begun c = let d = c .before .before .before .before .before in begun-as (c .before .begun2 .given .1) (d .begin .ensures)
+read-requires : tie.Need-read-requires
+read-requires c κs = search needs
 
-judge-requires : tie.Need-judge-requires
-judge-requires c κs = (begun-admitted (begun c) .file, begun c .counted _ refl)
+enum-known-found : tie.Need-enum-known-found
+enum-known-found c = search needs
 
-enum-known-judged : tie.Need-enum-known-judged
-enum-known-judged c = search needs
+enum-known-found-2 : tie.Need-enum-known-found-2
+enum-known-found-2 c = search needs
 
-enum-told : tie.Need-enum-told
-enum-told c = search needs
+cast-end : tie.Need-cast-end
+cast-end c = search needs
 
-cast-t14 : tie.Need-cast-t14
-cast-t14 c =
-    let d = c .before .before .before in
-    omega (arith, begun-admitted (begun d) .few, begun d .counted _ refl)
+mul-end : tie.Need-mul-end
+mul-end c = search needs
+
+array-share-prefix-list : tie.Need-array-share-prefix-list
+array-share-prefix-list c = opened-room _ _ (list-read c)
+
+slice-aggregate-check-words : tie.Need-slice-aggregate-check-words
+slice-aggregate-check-words c = sym (length-take-le _ _ (opened-room _ _ (list-read (c .before))))
+
+check-words-requires : tie.Need-check-words-requires
+check-words-requires c κs =
+    let so = opened _ _ (list-read (c .before .before)) in
+    (so .words, so .sound)
+
+returns : tie.Need-returns
+returns c = check-unread _ (c .before .found .given .0 .0) (refused _ (c .before .found .given .0 .0) (unread c))
 
 same-length : tie.Need-same-length
 same-length c = search needs
 
-returns : tie.Need-returns
-returns c =
-    let d = c .before .before .before .before .before in
-    check-entry (c .before .begun .given .0 .0) (begun-as (c .before .begun .given .1) (d .begin .ensures))
-
-same-length-2 : tie.Need-same-length-2
-same-length-2 c = search needs
-
 returns-2 : tie.Need-returns-2
-unfolding judgedVerdict
 returns-2 c =
-    let judge = c .before .before .before in
-    check-refused (begun (judge .before)) (c .before .judged .given .0 .0)
-    (sym (ap judgedVerdict (c .before .judged .given .1)) ∙ judge .judge .ensures)
-
-same-length-3 : tie.Need-same-length-3
-same-length-3 c = search needs
-
-returns-3 : tie.Need-returns-3
-unfolding judgedVerdict
-returns-3 c =
-    let judge = c .before .before in
-    check-passed (begun (judge .before)) (sym (ap judgedVerdict (c .enum-told .given .1)) ∙ judge .judge .ensures)
+    let d = c .before .before in
+    check-read (opened _ _ (list-read (d .before .before .before))) (d .check-words .ensures)
 
 pub check-spec : {M : Type 1} → statement M
 check-spec =
     tie.close
     (tie.spec
-    begin-requires
-    enum-known-begun
-    enum-known-begun-2
-    judge-requires
-    enum-known-judged
-    enum-told
-    cast-t14
-    same-length
+    slice-aggregate-read
+    read-requires
+    enum-known-found
+    enum-known-found-2
+    cast-end
+    mul-end
+    array-share-prefix-list
+    slice-aggregate-check-words
+    check-words-requires
     returns
-    same-length-2
-    returns-2
-    same-length-3
-    returns-3)
+    same-length
+    returns-2)

@@ -72,7 +72,7 @@ cast-ws c =
     omega (arith, fail-is (c .before .before .before .before) known, fail-within known, rows-few forward _ (known .sound))
 
 -- the child's cells are in the workspace
-row-room : (c : tie.After-ask) → rowCells * c .ask .result .child + 6 ≤ length (now (c .before .before .before .args .ws))
+row-room : (c : tie.After-ask) → rowCells * c .ask .result .child + rowCells ≤ length (now (c .before .before .before .args .ws))
 row-room c =
     let known = c .before .before .before .pre .2 in
     omega (arith, row-is c known, child-within known, known .filling .tree .room)

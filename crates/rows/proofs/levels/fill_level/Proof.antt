@@ -6,13 +6,15 @@ use mathlib.Core.Logic.{⊎-elim}
 use mathlib.Core.List.{List}
 use lib.ListN.{length, getD, set, length-map}
 use denote.Ref.{now}
-use Rattle.rules.specs.Sets.{keywords, keywordAt}
+use borrow.Author.Needs.{needs}
+use Rattle.rules.specs.Limits.{mostKeywords}
+use Rattle.rules.specs.Sets.{Keyword}
 use Rattle.rules.specs.Rows.{forward, readBy}
-use Rattle.rules.proofs.Sets.{length-keywords}
+use Rattle.rules.specs.Sound.{nth}
 use Rattle.rules.proofs.Rows.{rows-few}
-use Rattle.sets.specs.Words.{Stated, wayOf, readAt}
-use Rattle.sets.proofs.Passed.{good-file, good-stated}
-use Rattle.sets.proofs.Records.{word-length}
+use Rattle.words.specs.Entries.{Has, keywordsIn}
+use Rattle.words.specs.Read.{wayOf, readAt}
+use Rattle.words.proofs.Entries.{has-at}
 use Rattle.rows.specs.Falls.{Fillable, Filled}
 use Rattle.rows.proofs.Behind.{child-within}
 use Rattle.rows.proofs.Depth.{Halfway, halfway-none, halfway-skip, halfway-fillable, halfway-more, halfway-all}
@@ -20,64 +22,62 @@ use Rattle.rows.proofs.levels.fill_level.Statement.{statement}
 use Rattle.rows.proofs.levels.fill_level.Tie as tie
 
 abbrev Inv-loop : tie.InvT-loop
-Inv-loop ws₀ set depth next₀ count i₀ ws next i = Halfway set depth ws₀ i next ws
+Inv-loop ws₀ words depth next₀ count i₀ ws next i = Halfway (keywordsIn words) depth ws₀ i next ws
 
 abbrev μ-loop : tie.MeasureT-loop
-μ-loop ws₀ set depth next₀ count i₀ ws next i = count - i
+μ-loop ws₀ words depth next₀ count i₀ ws next i = count - i
+
+count-of-requires : tie.Need-count-of-requires Inv-loop μ-loop
+count-of-requires c κs = search needs
 
 loop-holds : tie.Need-loop-holds Inv-loop μ-loop
 loop-holds c =
-    let e = c .before .before in
-    halfway-none (e .pre) (sym (length-map (e .args .standing .rows) (λ x. x)) ∙ e .good .1 .1 .1 .0 .1 .1 .0 .1 .0 .1)
+    let e = c .before .before .before in
+    halfway-none (e .pre .1) (sym (length-map (e .args .standing .rows) (λ x. x)) ∙ e .good .1 .1 .1 .0 .1 .1 .0 .1 .0 .1)
 
--- a turn: the set and the depth, the keyword's number, its word and the row where it stands, and the workspace
+-- a turn: the keywords and the depth, the keyword's place, its word and the row where it stands, and the workspace
 abbrev Turn : Type 0
 Turn = tie.In-loop Inv-loop μ-loop
 
 abbrev start : Turn → tie.Start Inv-loop μ-loop
-start t = t .before .before .before .before
+start t = t .before .before .before .before .before
 
-abbrev set-of : Turn → List ℕ
-set-of t = now (start t .args .set)
+abbrev keywords-of : Turn → List Keyword
+keywords-of t = keywordsIn (now (start t .args .words))
 
 abbrev depth-of : Turn → ℕ
 depth-of t = start t .args .depth
 
-abbrev index-of : Turn → ℕ
-index-of t = t .before .loop .i
+abbrev place-of : Turn → ℕ
+place-of t = t .before .loop .i
 
 abbrev word-of : Turn → List ℕ
-word-of t = keywordAt (set-of t) (index-of t) .word
+word-of t = nth (keywords-of t) (place-of t) .word
 
 abbrev row-of : Turn → ℕ
-row-of t = getD (t .before .loop .next .rows) (index-of t) 0
+row-of t = getD (t .before .loop .next .rows) (place-of t) 0
 
 abbrev workspace : Turn → List ℕ
 workspace t = t .before .loop .ws
 
--- the keyword is one of the set's, of which there are few, and its record is whole
-listed : (t : Turn) → index-of t < length (keywords (set-of t))
-listed t = omega (arith, length-keywords (set-of t))
+-- the keyword is one of the list's, of which there are few, and its length is that of its word
+listed : (t : Turn) → place-of t < length (keywords-of t)
+listed t = omega (arith, t .before .before .count-of .ensures)
 
-few : (t : Turn) → index-of t < 64
-few t = omega (arith, listed t, start t .pre .sound .few)
+has : (t : Turn) → Has (now (start t .args .words)) (place-of t)
+has t = has-at (start t .pre .0) (listed t)
 
-stated : (c : tie.After-length-of Inv-loop μ-loop) → Stated (set-of (c .before)) (index-of (c .before)) (c .length-of .result)
-stated c =
-    let t = c .before in
-    rw (c .length-of .ensures .0) (good-stated (good-file (set-of t) (start t .pre .passed)) (index-of t) (omega arith))
+few : (t : Turn) → place-of t < mostKeywords
+few t = omega (arith, listed t, start t .pre .1 .sound .few)
 
 measured : (c : tie.After-length-of Inv-loop μ-loop) → length (word-of (c .before)) ≡ c .length-of .result
-measured c = word-length (set-of (c .before)) (index-of (c .before)) (c .length-of .result) (stated c)
+measured c = sym (c .length-of .ensures .0)
 
 length-of-requires : tie.Need-length-of-requires Inv-loop μ-loop
-length-of-requires c κs = omega arith
+length-of-requires c κs = has c
 
 unit-requires : tie.Need-unit-requires Inv-loop μ-loop
-unit-requires c κs = (stated (c .before), c .if1 .taken)
-
-cast-c : tie.Need-cast-c Inv-loop μ-loop
-cast-c c = omega arith
+unit-requires c κs = (has (c .before .before), c .before .length-of .ensures .0, c .if1 .taken)
 
 mul-parent : tie.Need-mul-parent Inv-loop μ-loop
 mul-parent c = omega arith
@@ -90,13 +90,13 @@ long : (c : tie.Then1 Inv-loop μ-loop) → depth-of (c .before .before) < lengt
 long c = omega (arith, c .if1 .taken, measured (c .before))
 
 abbrev Fills : Turn → ℕ → Type 0
-Fills t c = Fillable (keywords (set-of t)) (depth-of t) (row-of t) c (workspace t)
+Fills t c = Fillable (keywords-of t) (depth-of t) (row-of t) c (workspace t)
 
 fillable : (c : tie.After-unit Inv-loop μ-loop) → Fills (c .before .before .before) (c .unit .result)
 unfolding readAt wayOf readBy
 fillable c =
     let t = c .before .before .before in
-    halfway-fillable (start t .pre .sound) (t .before .loop .inv) (listed t) (long (c .before)) (c .unit .ensures)
+    halfway-fillable (start t .pre .1 .sound) (t .before .loop .inv) (listed t) (long (c .before)) (c .unit .ensures)
 
 cast-parent : tie.Need-cast-parent Inv-loop μ-loop
 cast-parent c =
@@ -110,7 +110,7 @@ abbrev turn : tie.After-fill-row Inv-loop μ-loop → Turn
 turn c = c .before .before .before .before .before .before
 
 filled : (c : tie.After-fill-row Inv-loop μ-loop)
-    → Filled (keywords (set-of (turn c))) (row-of (turn c)) (c .before .before .before .unit .result) (c .fill-row .result) (workspace (turn c)) (c .fill-row .last .0)
+    → Filled (keywords-of (turn c)) (row-of (turn c)) (c .before .before .before .unit .result) (c .fill-row .result) (workspace (turn c)) (c .fill-row .last .0)
 filled c = c .fill-row .ensures _ _ (fillable (c .before .before .before))
 
 cast-next : tie.Need-cast-next Inv-loop μ-loop
@@ -131,14 +131,14 @@ loop-less : tie.Need-loop-less Inv-loop μ-loop
 loop-less c = omega arith
 
 more : (c : tie.After-fill-row Inv-loop μ-loop)
-    → Halfway (set-of (turn c)) (depth-of (turn c)) (now (start (turn c) .args .ws)) (index-of (turn c) + 1)
-    (record { rows = set (turn c .before .loop .next .rows) (index-of (turn c)) (c .fill-row .result) })
+    → Halfway (keywords-of (turn c)) (depth-of (turn c)) (now (start (turn c) .args .ws)) (place-of (turn c) + 1)
+    (record { rows = set (turn c .before .loop .next .rows) (place-of (turn c)) (c .fill-row .result) })
     (c .fill-row .last .0)
 unfolding readAt wayOf readBy
 more c =
     let t = turn c in
     let u = c .before .before .before in
-    halfway-more (start t .pre .sound) (t .before .loop .inv) (listed t) (long (u .before)) (u .unit .ensures) (filled c)
+    halfway-more (start t .pre .1 .sound) (t .before .loop .inv) (listed t) (long (u .before)) (u .unit .ensures) (filled c)
 
 loop-again : tie.Need-loop-again Inv-loop μ-loop
 loop-again c =
@@ -150,7 +150,7 @@ loop-again c =
     rw (w .7, w .8) (more (record { before = record { before = called; fill-row-arg = w .3 }; fill-row = w .4 })))
     (λ w.
     rw (w .1, w .2)
-    (halfway-skip (start t .pre .sound) (t .before .loop .inv) (listed t) (omega (arith, measured (c .before), w .0 .left))))
+    (halfway-skip (start t .pre .1 .sound) (t .before .loop .inv) (listed t) (omega (arith, measured (c .before), w .0 .left))))
     (c .if1 .came)
 
 same-length : tie.Need-same-length Inv-loop μ-loop
@@ -158,8 +158,8 @@ same-length c = c .before .loop .inv .beyond .0
 
 returns : tie.Need-returns Inv-loop μ-loop
 returns c =
-    let e = c .before .before .before .before in
-    halfway-all (e .pre .sound) (c .before .loop .inv) (omega (arith, length-keywords (now (e .args .set))))
+    let e = c .before .before in
+    halfway-all (e .before .before .before .pre .1 .sound) (c .before .loop .inv) (omega (arith, e .count-of .ensures))
 
 pub fill-level-spec : {M : Type 1} → statement M
 fill-level-spec =
@@ -167,10 +167,10 @@ fill-level-spec =
     (tie.spec
     Inv-loop
     μ-loop
+    count-of-requires
     loop-holds
     length-of-requires
     unit-requires
-    cast-c
     mul-parent
     element-copy-out-parent
     cast-parent

@@ -1,58 +1,88 @@
--- The table has the nearest distances of the bytes passed, so at the end of the set the far numbers.
-use Prim.Native.Nat.{ℕ, _-_, _/_, _%_, _≤_, _<_}
+-- The table has the nearest distances of the places passed, so behind the last one the far numbers.
+use Prim.Native.Nat.{_-_, _*_, _/_, _%_, _≤_, _<_}
 use native.Mathlib.Omega.{arith}
 use mathlib.Core.Path.{_≡_, refl}
 use mathlib.Core.Logic.{⊎-elim}
+use mathlib.Core.List.{List}
 use lib.ListN.{length, getD}
 use denote.Ref.{now}
-use Rattle.rules.specs.Sets.{keywords}
-use Rattle.rules.specs.Sound.{Sound}
-use Rattle.rules.proofs.Sets.{file-passed}
-use Rattle.rules.proofs.Bytes.{bytes-sound}
+use borrow.Author.Needs.{needs}
+use Rattle.rules.specs.Limits.{longestWord, opcodes}
+use Rattle.rules.specs.Sets.{Keyword}
+use Rattle.rules.specs.Sound.{nth}
 use Rattle.rules.proofs.Least.{shortest-pos, shortest-short}
-use Rattle.sets.proofs.Passed.{good-file, good-whole, good-stated}
+use Rattle.words.specs.Entries.{Has, keywordsIn}
+use Rattle.skips.specs.Suffixes.{Listed}
+use Rattle.skips.proofs.Matches.{listed-has, listed-byte, unit-read}
 use Rattle.skips.proofs.FarTable.{Held, Table, table-none, table-other, table-met, table-all}
 use Rattle.skips.proofs.fars.far_numbers.Statement.{statement}
 use Rattle.skips.proofs.fars.far_numbers.Tie as tie
 
 abbrev Inv-loop : tie.InvT-loop
-Inv-loop set m far₀ q₀ far q = Table set m q far × (q ≤ length set)
+Inv-loop words m places far₀ q₀ far q = Table (keywordsIn words) m q far × (q ≤ places)
 
 abbrev μ-loop : tie.MeasureT-loop
-μ-loop set m far₀ q₀ far q = length set - q
+μ-loop words m places far₀ q₀ far q = places - q
 
-sound : (c : tie.After-shared-slice-known Inv-loop μ-loop) → Sound (keywords (now (c .before .args .set)))
-sound c = bytes-sound (now (c .before .args .set)) (λ i. c .shared-slice-known .given i .fits) (c .before .pre .0)
+count-of-requires : tie.Need-count-of-requires Inv-loop μ-loop
+count-of-requires c κs = search needs
+
+mul-places : tie.Need-mul-places Inv-loop μ-loop
+mul-places c = omega (arith, c .count-of .ensures, c .before .before .pre .1 .few)
 
 cast-far : tie.Need-cast-far Inv-loop μ-loop
-cast-far c = omega (arith, shortest-short (sound c))
+cast-far c = omega (arith, shortest-short (c .before .before .pre .1))
 
 loop-holds : tie.Need-loop-holds Inv-loop μ-loop
-loop-holds c = (table-none (now (c .before .args .set)) (c .before .args .m) (omega (arith, shortest-pos (sound c))), omega arith)
+loop-holds c =
+    let d = c .before .before in
+    (table-none (keywordsIn (now (d .args .words))) (d .args .m) (omega (arith, shortest-pos (d .pre .1))), omega arith)
 
--- the record of the byte in hand
-inside : (c : tie.In-loop Inv-loop μ-loop) → c .before .loop .q / 18 < length (now (c .before .before .before .args .set)) / 18
-inside c = omega (arith, file-passed (now (c .before .before .before .args .set)) (c .before .before .before .pre .0) .whole)
+-- the keyword of the place in hand
+listed : (c : tie.In-loop Inv-loop μ-loop)
+    → Listed (keywordsIn (now (c .before .before .before .before .args .words))) (c .before .loop .q / longestWord)
+listed c =
+    record { sound = c .before .before .before .before .pre .1; within = omega (arith, c .before .before .count-of .ensures) }
+
+has : (c : tie.In-loop Inv-loop μ-loop) → Has (now (c .before .before .before .before .args .words)) (c .before .loop .q / longestWord)
+has c = listed-has (c .before .before .before .before .pre .0) (listed c)
 
 length-of-requires : tie.Need-length-of-requires Inv-loop μ-loop
-length-of-requires c κs = good-whole (good-file _ (c .before .before .before .pre .0)) (c .before .loop .q / 18) (inside c)
+length-of-requires c κs = has c
 
-shared-slice-read-a : tie.Need-shared-slice-read-a Inv-loop μ-loop
-shared-slice-read-a c = omega arith
+unit-requires : tie.Need-unit-requires Inv-loop μ-loop
+unit-requires c κs = (has (c .before .before), c .before .length-of .ensures .0, c .if1 .taken)
+
+-- its unit is a byte
+byte : (c : tie.After-unit Inv-loop μ-loop) → c .unit .result < opcodes
+byte c =
+    let d = c .before .before in
+    let e = d .before in
+    let ks = keywordsIn (now (e .before .before .before .before .args .words)) in
+    let q = e .before .loop .q in
+    omega (
+      arith,
+      unit-read ks (q / longestWord) (q % longestWord) (c .unit .ensures),
+      listed-byte (listed e) (q % longestWord) (omega (arith, c .before .if1 .taken, d .length-of .ensures .0)),
+    )
 
 cast-a : tie.Need-cast-a Inv-loop μ-loop
-cast-a c = omega (arith, c .shared-slice-known2 .given (c .before .before .before .before .before .loop .q))
+cast-a c = omega (arith, byte c)
 
 mul-numbers : tie.Need-mul-numbers Inv-loop μ-loop
-mul-numbers c = omega (arith, c .shared-slice-known2 .given (c .before .before .before .before .before .loop .q))
+mul-numbers c = omega (arith, byte c)
 
 array-copy-out-numbers : tie.Need-array-copy-out-numbers Inv-loop μ-loop
-array-copy-out-numbers c = c .shared-slice-known2 .given (c .before .before .before .before .before .loop .q) .fits
+array-copy-out-numbers c = byte c
+
+sub-lower : tie.Need-sub-lower Inv-loop μ-loop
+sub-lower c = omega arith
+
+sub-lower-2 : tie.Need-sub-lower-2 Inv-loop μ-loop
+sub-lower-2 c = omega arith
 
 lower-requires : tie.Need-lower-requires Inv-loop μ-loop
-lower-requires c κs =
-    let e = c .before .before .before .before .before in
-    omega (arith, good-stated (good-file _ (e .before .before .before .pre .0)) (e .before .loop .q / 18) (inside e) .short)
+lower-requires c κs = omega (arith, c .before .before .before .length-of .ensures .1)
 
 mul-far : tie.Need-mul-far Inv-loop μ-loop
 mul-far c = mul-numbers (c .before .before)
@@ -68,25 +98,28 @@ loop-less c = omega arith
 
 loop-again : tie.Need-loop-again Inv-loop μ-loop
 loop-again c =
-    let l = c .before .before .before .loop in
-    let a = c .before .before .before .before .before .args in
+    let e = c .before .before in
+    let l = e .before .loop in
+    let ks : List Keyword = keywordsIn (now (e .before .before .before .before .args .words)) in
     let n = c .before .length-of in
     ⊎-elim
     (λ w.
-    let byte : ℕ = getD (now (a .set)) (l .q) 0 in
-    let here : Held (now (a .set)) (l .q) byte (n .result - l .q % 18) = record { inside = w .0 .taken; behind = omega (arith, w .1 .taken, n .ensures); byte = refl } in
-    (rw (w .5, w .4 .ensures) (table-met (l .q) (l .inv .0) byte (n .result - l .q % 18) (w .2 .given (l .q) .fits) here), omega arith))
-    (⊎-elim
-    (λ w. (rw (w .2) (table-other (l .q) (l .inv .0) (λ b d h. omega (arith, w .1 .left, h .behind, n .ensures))), omega arith))
-    (λ w. (rw (w .1) (table-other (l .q) (l .inv .0) (λ b d h. omega (arith, w .0 .left, h .inside))), omega arith)))
+    let here : Held ks (l .q) (getD (nth ks (l .q / longestWord) .word) (l .q % longestWord) 0) (n .result - 1 - l .q % longestWord) =
+    record { behind = omega (arith, w .0 .taken, n .ensures .0); byte = refl } in
+    let small = listed-byte (listed e) (l .q % longestWord) (omega (arith, w .0 .taken, n .ensures .0)) in
+    let unit = unit-read ks (l .q / longestWord) (l .q % longestWord) (w .1 .ensures) in
+    (rw (w .4, w .3 .ensures, unit) (table-met (l .q) (l .inv .0) _ (n .result - 1 - l .q % longestWord) small here), omega arith))
+    (λ w. (rw (w .1) (table-other (l .q) (l .inv .0) (λ b d h. omega (arith, w .0 .left, h .behind, n .ensures .0))), omega arith))
     (c .if1 .came)
 
 returns : tie.Need-returns Inv-loop μ-loop
 returns c =
-    let a = c .before .before .before .args in
-    let known = c .before .before .before .pre in
-    let all : c .before .loop .q ≡ length (now (a .set)) = omega arith in
-    table-all (now (a .set)) (known .0) (rw (all, known .1) at (c .before .loop .inv .0))
+    let l = c .before .loop in
+    let d = c .before .before in
+    let s = d .before .before in
+    let ks : List Keyword = keywordsIn (now (s .args .words)) in
+    let all : l .q ≡ longestWord * length ks = omega (arith, d .count-of .ensures) in
+    table-all ks (s .pre .1) (rw (all, s .pre .2) at (l .inv .0))
 
 pub far-numbers-spec : {M : Type 1} → statement M
 far-numbers-spec =
@@ -94,13 +127,17 @@ far-numbers-spec =
     (tie.spec
     Inv-loop
     μ-loop
+    count-of-requires
+    mul-places
     cast-far
     loop-holds
     length-of-requires
-    shared-slice-read-a
+    unit-requires
     cast-a
     mul-numbers
     array-copy-out-numbers
+    sub-lower
+    sub-lower-2
     lower-requires
     mul-far
     array-set-from-far

@@ -7,10 +7,10 @@ use Rattle.skips.proofs.judge.fault.Statement.{statement}
 use Rattle.skips.proofs.judge.fault.Tie as tie
 
 abbrev Inv-loop : tie.InvT-loop
-Inv-loop file row largest from k₀ k = Alike file row largest k
+Inv-loop file row best from k₀ k = Alike file row best k
 
 abbrev μ-loop : tie.MeasureT-loop
-μ-loop file row largest from k₀ k = 16 - k
+μ-loop file row best from k₀ k = 16 - k
 
 mul-from : tie.Need-mul-from Inv-loop μ-loop
 mul-from c = omega arith

@@ -2,64 +2,66 @@
 use Prim.Native.Nat.{_-_, _<_}
 use native.Mathlib.Omega.{arith}
 use denote.Ref.{now}
-use Rattle.rules.specs.Sets.{keywords}
 use Rattle.rules.specs.Rows.{backward}
-use Rattle.rules.specs.Sound.{Sound}
-use Rattle.rules.proofs.Bytes.{bytes-sound}
 use Rattle.rules.proofs.Rows.{rows-few}
+use Rattle.rules.proofs.Counts.{answer-refused, answer-passed}
 use Rattle.rules.proofs.Tables.{suffixRows-length, suffix-short}
+use Rattle.words.specs.Entries.{keywordsIn}
 use Rattle.skips.specs.Suffixes.{At, suffixAt}
-use Rattle.skips.specs.Judging.{judgedVerdict}
 use Rattle.skips.proofs.Rowwise.{RowsPassed, RowTold, rows-none, rows-name, rows-number, rows-more, rows-all}
 use Rattle.skips.proofs.judge.judge_rows.Statement.{statement}
 use Rattle.skips.proofs.judge.judge_rows.Tie as tie
 
 abbrev Inv-loop : tie.InvT-loop
-Inv-loop set rows m file at₀ row₀ at row = At set row at × RowsPassed (keywords set) file row
+Inv-loop words rows m file at₀ row₀ at row = At (keywordsIn words) row at × RowsPassed (keywordsIn words) file row
 
 abbrev μ-loop : tie.MeasureT-loop
-μ-loop set rows m file at₀ row₀ at row = rows - row
+μ-loop words rows m file at₀ row₀ at row = rows - row
 
 first-requires : tie.Need-first-requires Inv-loop μ-loop
 first-requires c κs = tt
 
 loop-holds : tie.Need-loop-holds Inv-loop μ-loop
-loop-holds c = (c .first .ensures (now (c .before .before .before .args .set)) (c .before .before .before .pre .passed), rows-none _ _)
-
-sound : (c : tie.At-loop Inv-loop μ-loop) → Sound (keywords (now (c .before .before .before .before .args .set)))
-sound c =
+loop-holds c =
     let s = c .before .before .before in
-    bytes-sound (now (s .before .args .set)) (λ i. s .shared-slice-known .given i .fits) (s .before .pre .passed)
+    (c .first .ensures (keywordsIn (now (s .args .words))) (s .pre .1 .sound), rows-none _ _)
 
 record-of-requires : tie.Need-record-of-requires Inv-loop μ-loop
-record-of-requires c κs = (c .loop .inv .0 .reached .suffix, c .before .before .before .before .pre .shortest-is)
+record-of-requires c κs =
+    let known = c .before .before .before .before .pre in
+    (known .0, c .loop .inv .0 .walked .suffix, known .1 .shortest-is)
 
 fault-requires : tie.Need-fault-requires Inv-loop μ-loop
 fault-requires c κs =
     let known = c .before .before .before .before .before .pre in
-    omega (arith, c .before .loop .inv .0 .within, known .counted, known .sized)
+    omega (arith, c .before .loop .inv .0 .within, known .1 .counted, known .2)
 
 -- a row's number is small
 small : (c : tie.At-loop Inv-loop μ-loop) → c .loop .row < 961
-small c = omega (arith, c .loop .inv .0 .within, rows-few backward (keywords (now (c .before .before .before .before .args .set))) (sound c))
+small c =
+    let s = c .before .before .before .before in
+    omega (arith, c .loop .inv .0 .within, rows-few backward (keywordsIn (now (s .args .words))) (s .pre .1 .sound))
 
 -- what is known of the row once its record is compared
 told : (c : tie.After-fault Inv-loop μ-loop)
     → RowTold
-    (keywords (now (c .before .before .before .before .before .before .args .set)))
+    (keywordsIn (now (c .before .before .before .before .before .before .args .words)))
     (now (c .before .before .before .before .before .before .args .file))
     (c .before .before .loop .row)
-    (suffixAt (now (c .before .before .before .before .before .before .args .set)) (c .before .before .loop .at .keyword) (c .before .before .loop .at .depth))
+    (suffixAt
+    (keywordsIn (now (c .before .before .before .before .before .before .args .words)))
+    (c .before .before .loop .at .keyword)
+    (c .before .before .loop .at .depth))
     (c .fault .result)
 told c =
     let l = c .before .before in
-    let a = l .before .before .before .before .args in
+    let s = l .before .before .before .before in
     let at = l .loop .inv .0 in
     record {
       passed = l .loop .inv .1;
-      within = omega (arith, at .within, suffixRows-length (keywords (now (a .set))));
+      within = omega (arith, at .within, suffixRows-length (keywordsIn (now (s .args .words))));
       names = at .names;
-      short = rw (at .names) at (suffix-short (sound l) (l .loop .row) (at .within));
+      short = rw (at .names) at (suffix-short (s .pre .1 .sound) (l .loop .row) (at .within));
       fault = rw (c .before .record-of .ensures) at (c .fault .ensures);
     }
 
@@ -67,31 +69,33 @@ cast-t10 : tie.Need-cast-t10 Inv-loop μ-loop
 cast-t10 c = omega (arith, small (c .before .before .before))
 
 returns : tie.Need-returns Inv-loop μ-loop
-unfolding judgedVerdict
-returns c = rows-name (told (c .before)) (c .if1 .taken)
+returns c = answer-refused _ (rows-name (told (c .before)) (c .if1 .taken))
 
 cast-t12 : tie.Need-cast-t12 Inv-loop μ-loop
 cast-t12 c = omega (arith, small (c .before .before .before .before))
 
 returns-2 : tie.Need-returns-2 Inv-loop μ-loop
-unfolding judgedVerdict
-returns-2 c = rows-number (told (c .before .before)) (c .if2 .taken)
+returns-2 c = answer-refused _ (rows-number (told (c .before .before)) (c .if2 .taken))
 
 add-if3 : tie.Need-add-if3 Inv-loop μ-loop
 add-if3 c = omega (arith, small (c .before .before .before .before))
 
+cast-t15 : tie.Need-cast-t15 Inv-loop μ-loop
+cast-t15 c = omega (arith, small (c .before .before .before .before .before))
+
 returns-3 : tie.Need-returns-3 Inv-loop μ-loop
-unfolding judgedVerdict
 returns-3 c =
     let e = c .before in
     let begun = e .before .before .before .before .before .before .before .before in
-    rows-all (told (e .before .before)) (e .before .if1 .left) (e .if2 .left)
-    (omega (arith, c .if3 .taken, begun .pre .counted, suffixRows-length (keywords (now (begun .args .set)))))
+    answer-passed _
+    (rows-all (told (e .before .before)) (e .before .if1 .left) (e .if2 .left)
+    (omega (arith, c .if3 .taken, begun .pre .1 .counted, suffixRows-length (keywordsIn (now (begun .args .words))))))
 
 next-requires : tie.Need-next-requires Inv-loop μ-loop
 next-requires c κs =
     let l = c .before .before .before .before .before in
-    (l .loop .inv .0, omega (arith, c .if3 .left, l .loop .inv .0 .within, l .before .before .before .before .pre .counted))
+    let known = l .before .before .before .before .pre in
+    (known .0, l .loop .inv .0, omega (arith, c .if3 .left, l .loop .inv .0 .within, known .1 .counted))
 
 add-row : tie.Need-add-row Inv-loop μ-loop
 add-row c = omega (arith, small (c .before .before .before .before .before .before))
@@ -99,7 +103,7 @@ add-row c = omega (arith, small (c .before .before .before .before .before .befo
 loop-less : tie.Need-loop-less Inv-loop μ-loop
 loop-less c =
     let l = c .before .before .before .before .before .before in
-    omega (arith, l .loop .inv .0 .within, l .before .before .before .before .pre .counted)
+    omega (arith, l .loop .inv .0 .within, l .before .before .before .before .pre .1 .counted)
 
 loop-again : tie.Need-loop-again Inv-loop μ-loop
 loop-again c =
@@ -121,6 +125,7 @@ judge-rows-spec =
     cast-t12
     returns-2
     add-if3
+    cast-t15
     returns-3
     next-requires
     add-row

@@ -1,21 +1,17 @@
--- What stands before the last n bytes of keyword k and the end of the suffix that it is compared with are parts of the set's bytes.
+-- What stands before the last n bytes of the other keyword and the end of the suffix that it is compared with are parts of two keywords.
 use native.Mathlib.Omega.{arith}
 use mathlib.Core.Path.{_∙_}
-use denote.Ref.{now}
-use Rattle.skips.proofs.Matches.{Measured, measured, listed-whole, ends-always, ends-never, ends-compared}
+use Rattle.skips.proofs.Matches.{listed-has, listed-short, ends-always, ends-never, ends-compared}
 use Rattle.skips.proofs.numbers.ends_within.Statement.{statement}
 use Rattle.skips.proofs.numbers.ends_within.Tie as tie
 
 length-of-requires : tie.Need-length-of-requires
-length-of-requires c κs = listed-whole (c .before .pre .1)
-
-long : (c : tie.After-length-of) → Measured (now (c .before .before .args .set)) (c .before .before .args .k) (c .length-of .result)
-long c = measured (c .before .before .pre .1) (c .length-of .ensures .0)
+length-of-requires c κs = listed-has (c .before .pre .0) (c .before .pre .2)
 
 returns : tie.Need-returns
 returns c =
-    let known = c .before .before .before .pre in
-    ends-always (known .0) (known .1) (long (c .before)) (c .before .before .before .args .n) (c .if1 .taken)
+    let d = c .before .before .before in
+    ends-always (d .pre .1) (d .args .k) (d .args .n) (c .before .length-of .ensures .0) (c .if1 .taken)
 
 sub-front : tie.Need-sub-front
 sub-front c = omega arith
@@ -23,30 +19,33 @@ sub-front c = omega arith
 returns-2 : tie.Need-returns-2
 returns-2 c =
     let d = c .before .before in
-    let known = d .before .before .pre in
-    ends-never (known .0) (known .1) (long d) (d .before .before .args .n) (c .before .if1 .left) (c .if2 .taken)
+    let e = d .before .before in
+    ends-never (e .pre .1) (e .args .k) (e .args .n) (d .length-of .ensures .0) (c .before .if1 .left) (c .if2 .taken)
 
 add-alike : tie.Need-add-alike
-add-alike c = omega (arith, c .before .before .before .before .pre .0)
+add-alike c =
+    let known = c .before .before .before .before .pre in
+    omega (arith, known .1 .within, listed-short (known .1 .listed))
 
 sub-alike : tie.Need-sub-alike
 sub-alike c = omega arith
 
-mul-alike : tie.Need-mul-alike
-mul-alike c = omega (arith, long (c .before .before))
-
-add-alike-2 : tie.Need-add-alike-2
-add-alike-2 c = omega (arith, long (c .before .before))
-
 alike-requires : tie.Need-alike-requires
-alike-requires c κs = omega (arith, long (c .before .before), c .before .before .before .before .pre .0)
+alike-requires c κs =
+    let d = c .before .before in
+    let known = d .before .before .pre in (
+      listed-has (known .0) (known .1 .listed),
+      listed-has (known .0) (known .2),
+      omega (arith, known .1 .within),
+      omega (arith, d .length-of .ensures .0),
+    )
 
 returns-3 : tie.Need-returns-3
 returns-3 c =
     let d = c .before .before .before in
-    let known = d .before .before .pre in
+    let e = d .before .before in
     c .alike .ensures
-    ∙ ends-compared (known .0) (known .1) (long d) (d .before .before .args .n) (c .before .before .if1 .left) (c .before .if2 .left)
+    ∙ ends-compared (e .pre .1) (e .args .k) (e .args .n) (d .length-of .ensures .0) (c .before .before .if1 .left) (c .before .if2 .left)
 
 pub ends-within-spec : {M : Type 1} → statement M
 ends-within-spec =
@@ -58,7 +57,5 @@ ends-within-spec =
     returns-2
     add-alike
     sub-alike
-    mul-alike
-    add-alike-2
     alike-requires
     returns-3)

@@ -1,33 +1,20 @@
--- The suffix and the part of keyword k that it is compared with are parts of the set's bytes.
+-- The suffix and the bytes of the other keyword that it is compared with are parts of two keywords.
 use native.Mathlib.Omega.{arith}
 use mathlib.Core.Path.{_∙_}
-use denote.Ref.{now}
-use Rattle.skips.proofs.Matches.{Measured, measured, listed-whole, holds-never, holds-compared}
+use Rattle.skips.proofs.Matches.{listed-has, part-short, holds-never, holds-compared}
 use Rattle.skips.proofs.numbers.holds_before.Statement.{statement}
 use Rattle.skips.proofs.numbers.holds_before.Tie as tie
 
 length-of-requires : tie.Need-length-of-requires
-length-of-requires c κs = listed-whole (c .before .pre .1)
+length-of-requires c κs = listed-has (c .before .pre .0) (c .before .pre .2)
 
 add-if1 : tie.Need-add-if1
-add-if1 c = omega (arith, c .before .before .pre .0)
-
-long : (c : tie.After-length-of) → Measured (now (c .before .before .args .set)) (c .before .before .args .k) (c .length-of .result)
-long c = measured (c .before .before .pre .1) (c .length-of .ensures .0)
+add-if1 c = omega (arith, part-short (c .before .before .pre .1))
 
 returns : tie.Need-returns
 returns c =
-    let known = c .before .before .before .pre in
-    holds-never (known .0) (known .1) (long (c .before)) (c .before .before .before .args .n) (c .if1 .taken)
-
-mul-alike : tie.Need-mul-alike
-mul-alike c = omega (arith, long (c .before))
-
-add-alike : tie.Need-add-alike
-add-alike c = omega (arith, long (c .before))
-
-add-alike-2 : tie.Need-add-alike-2
-add-alike-2 c = omega (arith, long (c .before))
+    let d = c .before .before .before in
+    holds-never (d .pre .1) (d .args .k) (d .args .n) (c .before .length-of .ensures .0) (c .if1 .taken)
 
 sub-alike : tie.Need-sub-alike
 sub-alike c = omega arith
@@ -36,13 +23,19 @@ sub-alike-2 : tie.Need-sub-alike-2
 sub-alike-2 c = omega arith
 
 alike-requires : tie.Need-alike-requires
-alike-requires c κs = omega (arith, long (c .before), c .before .before .before .pre .0)
+alike-requires c κs =
+    let known = c .before .before .before .pre in (
+      listed-has (known .0) (known .1 .listed),
+      listed-has (known .0) (known .2),
+      known .1 .within,
+      omega (arith, c .before .length-of .ensures .0),
+    )
 
 returns-2 : tie.Need-returns-2
 returns-2 c =
     let d = c .before .before in
-    let known = d .before .before .pre in
-    c .alike .ensures ∙ holds-compared (known .0) (known .1) (long d) (d .before .before .args .n) (c .before .if1 .left)
+    let e = d .before .before in
+    c .alike .ensures ∙ holds-compared (e .pre .1) (e .args .k) (e .args .n) (d .length-of .ensures .0) (c .before .if1 .left)
 
 pub holds-before-spec : {M : Type 1} → statement M
 holds-before-spec =
@@ -51,9 +44,6 @@ holds-before-spec =
     length-of-requires
     add-if1
     returns
-    mul-alike
-    add-alike
-    add-alike-2
     sub-alike
     sub-alike-2
     alike-requires

@@ -1,39 +1,42 @@
 -- The numbers are tried from 1 up: no keyword stops the search at a smaller one, until one does or m is reached.
-use Prim.Native.Nat.{_-_}
+use Prim.Native.Nat.{_-_, _≤_}
 use native.Mathlib.Omega.{arith}
 use mathlib.Core.Path.{sym, _∙_}
 use denote.Ref.{now}
-use Rattle.rules.specs.Sets.{keywords, shortest}
+use Rattle.rules.specs.Limits.{longestWord}
+use Rattle.rules.specs.Sets.{shortest}
+use Rattle.rules.proofs.Least.{shortest-pos, shortest-short}
 use Rattle.rules.proofs.Searches.{Searched, searched-none, searched-stop, searched-more, searched-all}
+use Rattle.words.specs.Entries.{keywordsIn}
 use Rattle.skips.specs.Suffixes.{partAt, somePasses}
-use Rattle.skips.proofs.Bounds.{Bounded, shortest-bounded}
 use Rattle.skips.proofs.Matches.{largest-least}
 use Rattle.skips.proofs.numbers.largest.Statement.{statement}
 use Rattle.skips.proofs.numbers.largest.Tie as tie
 
 abbrev Inv-loop : tie.InvT-loop
-Inv-loop set from z m which n₀ n = Searched (shortest (keywords set)) (somePasses which (keywords set) (partAt set from z)) n
+Inv-loop words i from z m which n₀ n =
+    Searched (shortest (keywordsIn words)) (somePasses which (keywordsIn words) (partAt (keywordsIn words) i from z)) n
 
 abbrev μ-loop : tie.MeasureT-loop
-μ-loop set from z m which n₀ n = m - n
+μ-loop words i from z m which n₀ n = m - n
 
--- m is from 1 to 15
-bounds : (c : tie.Start Inv-loop μ-loop) → Bounded (shortest (keywords (now (c .args .set))))
-bounds c = shortest-bounded (now (c .args .set)) (c .pre .1)
+-- m is at most 15
+high : (c : tie.Start Inv-loop μ-loop) → shortest (keywordsIn (now (c .args .words))) ≤ longestWord
+high c = shortest-short (c .pre .1 .listed .sound)
 
 loop-holds : tie.Need-loop-holds Inv-loop μ-loop
-loop-holds c = searched-none _ _ (bounds (c .before) .low)
+loop-holds c = searched-none _ _ (shortest-pos (c .before .pre .1 .listed .sound))
 
 some-passes-requires : tie.Need-some-passes-requires Inv-loop μ-loop
 some-passes-requires c κs =
     let d = c .before .before .before in
-    (d .pre .0, d .pre .1, omega (arith, bounds d))
+    (d .pre .0, d .pre .1, omega (arith, high d))
 
 returns : tie.Need-returns Inv-loop μ-loop
 returns c =
     let d = c .before .before in
     let found = sym (c .before .some-passes .ensures) ∙ c .if1 .taken in
-    (searched-stop (d .before .loop .inv) (omega arith) found ∙ sym (largest-least _ _ _), omega (arith, bounds (d .before .before .before)))
+    (searched-stop (d .before .loop .inv) (omega arith) found ∙ sym (largest-least _ _ _), omega (arith, high (d .before .before .before)))
 
 add-n : tie.Need-add-n Inv-loop μ-loop
 add-n c = omega arith
@@ -48,7 +51,7 @@ loop-again c =
 returns-2 : tie.Need-returns-2 Inv-loop μ-loop
 returns-2 c = (
   searched-all (c .before .loop .inv) (omega arith) ∙ sym (largest-least _ _ _),
-  omega (arith, c .before .loop .inv .high, bounds (c .before .before .before)),
+  omega (arith, c .before .loop .inv .high, high (c .before .before .before)),
 )
 
 pub largest-spec : {M : Type 1} → statement M

@@ -14,7 +14,7 @@ enum-told-2 : tie.Need-enum-told-2
 enum-told-2 c = search needs
 
 ends-within-requires : tie.Need-ends-within-requires
-ends-within-requires c κs = let known = c .before .before .before .pre in (known .0, known .1)
+ends-within-requires c κs = let known = c .before .before .before .pre in (known .0, known .1, known .2)
 
 returns : tie.Need-returns
 unfolding testOf

@@ -1,43 +1,45 @@
 -- All rows up to depth z of keyword i are passed and some are left, so where the keyword ends there is a later one.
 use Prim.Native.Nat.{_+_, _-_}
 use native.Mathlib.Omega.{arith}
-use mathlib.Core.Path.{sym, _∙_}
+use mathlib.Core.Path.{_∙_}
 use lib.ListN.{length}
 use denote.Ref.{now}
-use Rattle.rules.specs.Sets.{keywords}
-use Rattle.sets.specs.Words.{wayOf}
-use Rattle.sets.proofs.Passed.{good-file, good-front}
-use Rattle.skips.specs.Suffixes.{Reached, sharedAt}
-use Rattle.skips.proofs.Matches.{listed-whole, listed-within, listed-length, listed-short}
-use Rattle.skips.proofs.Places.{reached-row, reached-next}
+use Rattle.words.specs.Entries.{keywordsIn}
+use Rattle.words.specs.Read.{wayOf}
+use Rattle.skips.specs.Suffixes.{Walked, sharedAt}
+use Rattle.skips.proofs.Matches.{listed-has, listed-short}
+use Rattle.skips.proofs.Places.{walked-row, walked-next}
 use Rattle.skips.proofs.suffixes.next.Statement.{statement}
 use Rattle.skips.proofs.suffixes.next.Tie as tie
 
 abbrev Inv-loop : tie.InvT-loop
-Inv-loop set row i₀ z₀ i z = Reached set (row + 1) i z
+Inv-loop words row i₀ z₀ i z = Walked (keywordsIn words) (row + 1) i z
 
 abbrev μ-loop : tie.MeasureT-loop
-μ-loop set row i₀ z₀ i z = length (keywords set) - i
+μ-loop words row i₀ z₀ i z = length (keywordsIn words) - i
 
 loop-holds : tie.Need-loop-holds Inv-loop μ-loop
-loop-holds c = c .before .pre .0 .reached
+loop-holds c = c .before .pre .1 .walked
 
 length-of-requires : tie.Need-length-of-requires Inv-loop μ-loop
-length-of-requires c κs = listed-whole (c .loop .inv .suffix .listed)
+length-of-requires c κs = listed-has (c .before .before .pre .0) (c .loop .inv .suffix .listed)
 
--- keyword i is passed, and the next one is reached
-passed : (c : tie.Then1 Inv-loop μ-loop) → Reached (now (c .before .before .before .before .args .set)) (c .before .before .before .before .args .row + 1) (c .before .before .loop .i + 1) (sharedAt (now (c .before .before .before .before .args .set)) (c .before .before .loop .i + 1))
+-- the keyword at place i is passed, and the next one is walked as far as it shares
+passed : (c : tie.Then1 Inv-loop μ-loop)
+    → Walked
+    (keywordsIn (now (c .before .before .before .before .args .words)))
+    (c .before .before .before .before .args .row + 1)
+    (c .before .before .loop .i + 1)
+    (sharedAt (keywordsIn (now (c .before .before .before .before .args .words))) (c .before .before .loop .i + 1))
 passed c =
-    let so = c .before .before .loop .inv in
-    reached-next so (c .before .before .before .before .pre .1) (c .if1 .taken ∙ c .before .length-of .ensures .0 ∙ sym (listed-length (so .suffix .listed)))
+    walked-next (c .before .before .loop .inv) (c .before .before .before .before .pre .2) (c .if1 .taken ∙ c .before .length-of .ensures .0)
 
 add-i : tie.Need-add-i Inv-loop μ-loop
-add-i c = omega (arith, listed-whole (c .before .before .loop .inv .suffix .listed))
+add-i c = omega (arith, listed-has (c .before .before .before .before .pre .0) (c .before .before .loop .inv .suffix .listed) .room)
 
 most-shared-requires : tie.Need-most-shared-requires Inv-loop μ-loop
 most-shared-requires c κs =
-    let listed = passed c .suffix .listed in
-    good-front (good-file _ (listed .passed)) (c .before .before .loop .i + 1 + 1) (omega (arith, listed-within listed))
+    listed-has (c .before .before .before .before .pre .0) (passed c .suffix .listed)
 
 loop-less : tie.Need-loop-less Inv-loop μ-loop
 loop-less c = omega (arith, c .before .before .before .loop .inv .suffix .listed .within)
@@ -52,8 +54,7 @@ add-t9 c = omega (arith, c .before .before .loop .inv .suffix .short, listed-sho
 returns : tie.Need-returns Inv-loop μ-loop
 returns c =
     let so = c .before .before .loop .inv in
-    let ends = c .before .length-of .ensures .0 ∙ sym (listed-length (so .suffix .listed)) in
-    reached-row so (c .before .before .before .before .pre .1) (omega (arith, so .suffix .short, ends))
+    walked-row so (c .before .before .before .before .pre .2) (omega (arith, so .suffix .short, c .before .length-of .ensures .0))
 
 pub next-spec : {M : Type 1} → statement M
 next-spec =

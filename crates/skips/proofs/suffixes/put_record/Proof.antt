@@ -3,6 +3,7 @@ use Prim.Native.Nat.{_-_}
 use native.Mathlib.Omega.{arith}
 use mathlib.Core.Path.{_≡_}
 use lib.ListN.{length}
+use Rattle.rules.specs.Limits.{rowRecord}
 use Rattle.skips.proofs.Buffers.{Pasted, pasted-none, pasted-length, pasted-more, pasted-all}
 use Rattle.skips.proofs.suffixes.put_record.Statement.{statement}
 use Rattle.skips.proofs.suffixes.put_record.Tie as tie
@@ -11,10 +12,10 @@ abbrev Inv-loop : tie.InvT-loop
 Inv-loop buffer₀ row numbers from k₀ buffer k = Pasted buffer₀ from numbers buffer k
 
 abbrev μ-loop : tie.MeasureT-loop
-μ-loop buffer₀ row numbers from k₀ buffer k = 18 - k
+μ-loop buffer₀ row numbers from k₀ buffer k = rowRecord - k
 
 -- the record has eighteen numbers
-sized : (c : tie.Start Inv-loop μ-loop) → length (c .args .t3) ≡ 18
+sized : (c : tie.Start Inv-loop μ-loop) → length (c .args .t3) ≡ rowRecord
 sized c = c .good .1 .1 .0 .1 .0 .1
 
 mul-from : tie.Need-mul-from Inv-loop μ-loop

@@ -4,16 +4,17 @@ use native.Mathlib.Omega.{arith}
 use mathlib.Core.Path.{_∙_}
 use borrow.Author.Needs.{needs}
 use denote.Ref.{now}
+use Rattle.words.specs.Entries.{keywordsIn}
 use Rattle.skips.specs.Suffixes.{At}
 use Rattle.skips.proofs.Buffers.{Laid, laid-none, laid-more, laid-length, laid-all}
 use Rattle.skips.proofs.suffixes.put_rows.Statement.{statement}
 use Rattle.skips.proofs.suffixes.put_rows.Tie as tie
 
 abbrev Inv-loop : tie.InvT-loop
-Inv-loop set m rows buffer₀ at₀ row₀ buffer at row = At set row at × Laid set buffer₀ buffer row
+Inv-loop words m rows buffer₀ at₀ row₀ buffer at row = At (keywordsIn words) row at × Laid (keywordsIn words) buffer₀ buffer row
 
 abbrev μ-loop : tie.MeasureT-loop
-μ-loop set m rows buffer₀ at₀ row₀ buffer at row = rows - row
+μ-loop words m rows buffer₀ at₀ row₀ buffer at row = rows - row
 
 first-requires : tie.Need-first-requires Inv-loop μ-loop
 first-requires c κs = search needs
@@ -21,11 +22,13 @@ first-requires c κs = search needs
 loop-holds : tie.Need-loop-holds Inv-loop μ-loop
 loop-holds c =
     let e = c .before .before .before in
-    let known = e .pre in
-    (c .first .ensures (now (e .args .set)) (known .passed), laid-none _ _ (omega (arith, known .counted, known .room)))
+    let known = e .pre .1 in
+    (c .first .ensures (keywordsIn (now (e .args .words))) (known .sound), laid-none _ _ (omega (arith, known .counted, known .room)))
 
 record-of-requires : tie.Need-record-of-requires Inv-loop μ-loop
-record-of-requires c κs = (c .loop .inv .0 .reached .suffix, c .before .before .before .before .pre .shortest-is)
+record-of-requires c κs =
+    let known = c .before .before .before .before .pre in
+    (known .0, c .loop .inv .0 .walked .suffix, known .1 .shortest-is)
 
 put-record-requires : tie.Need-put-record-requires Inv-loop μ-loop
 put-record-requires c κs =
@@ -34,7 +37,12 @@ put-record-requires c κs =
     omega (arith, so .1 .room, laid-length (so .1) (omega (arith, low)))
 
 -- one record more lies in the buffer
-put : (c : tie.After-slice-known2 Inv-loop μ-loop) → Laid (now (c .before .before .before .before .before .before .before .before .before .args .set)) (now (c .before .before .before .before .before .before .before .before .before .args .buffer)) (c .before .before .put-record .last .0) (c .before .before .before .before .before .loop .row + 1)
+put : (c : tie.After-slice-known2 Inv-loop μ-loop)
+    → Laid
+    (keywordsIn (now (c .before .before .before .before .before .before .before .before .before .args .words)))
+    (now (c .before .before .before .before .before .before .before .before .before .args .buffer))
+    (c .before .before .put-record .last .0)
+    (c .before .before .before .before .before .loop .row + 1)
 put c =
     let p = c .before .before in
     let r = p .before .before in
@@ -43,10 +51,12 @@ put c =
 
 -- row is below the number of rows
 low : (c : tie.At-loop Inv-loop μ-loop) → c .loop .row < c .before .before .before .before .args .rows
-low c = omega (arith, c .loop .inv .0 .within, c .before .before .before .before .pre .counted)
+low c = omega (arith, c .loop .inv .0 .within, c .before .before .before .before .pre .1 .counted)
 
 add-if1 : tie.Need-add-if1 Inv-loop μ-loop
-add-if1 c = omega (arith, low (c .before .before .before .before .before), c .before .before .before .before .before .before .before .before .before .fits .rows)
+add-if1 c =
+    let h = c .before .before .before .before .before in
+    omega (arith, low h, h .before .before .before .before .fits .rows)
 
 same-length : tie.Need-same-length Inv-loop μ-loop
 same-length c =
@@ -55,12 +65,13 @@ same-length c =
 returns : tie.Need-returns Inv-loop μ-loop
 returns c =
     let e = c .before .before .before .before .before .before .before .before .before .before in
-    laid-all (put (c .before)) (c .if1 .taken ∙ e .pre .counted)
+    laid-all (put (c .before)) (c .if1 .taken ∙ e .pre .1 .counted)
 
 next-requires : tie.Need-next-requires Inv-loop μ-loop
 next-requires c κs =
     let h = c .before .before .before .before .before .before in
-    (h .loop .inv .0, omega (arith, low h, c .if1 .left, h .before .before .before .before .pre .counted))
+    let known = h .before .before .before .before .pre in
+    (known .0, h .loop .inv .0, omega (arith, low h, c .if1 .left, known .1 .counted))
 
 add-row : tie.Need-add-row Inv-loop μ-loop
 add-row c =

@@ -1,0 +1,69 @@
+-- A keyword more adds the rows that it does not share and can only lower the least length, so both follow keyword by keyword.
+use Prim.Native.Nat.{ℕ, _+_, _-_, _≤_, _<_, min, max}
+use native.Mathlib.Omega.{arith}
+use native.Mathlib.Numerals.{add-one}
+use mathlib.Core.Path.{_≡_, refl}
+use mathlib.Core.Bool.{true, false}
+use mathlib.Core.List.{List, [], _∷_, _++_, map, map-append}
+use lib.ListN.{length, take, length-take}
+use lib.Seq.{take-suc, getD-take}
+use Rattle.rules.specs.Strings.{same, any, common, mostCommon}
+use Rattle.rules.specs.Sets.{Keyword, shortest, isKeyword}
+use Rattle.rules.specs.Rows as R
+use Rattle.rules.specs.Sound.{noKeyword, nth}
+use Rattle.rules.proofs.Rows.{any-at}
+use Rattle.rules.proofs.Count.{mostCommon-le, mostCommon-append, rowsOf-count}
+use Rattle.rules.proofs.Common.{shortest-more, isKeyword-more}
+use Rattle.words.specs.Read.{readAt, earlier}
+
+-- none of the keywords, and the first
+pub most-none : (way : R.Way) (ks : List Keyword) (w : List ℕ) → 0 ≡ mostCommon (earlier way ks 0) w
+unfolding earlier mostCommon
+most-none way ks w = refl
+
+pub rows-none : (way : R.Way) (ks : List Keyword) → 1 ≡ length (R.rowsOf way (take 0 ks))
+unfolding R.rowsOf R.meetWords
+rows-none way ks = refl
+
+pub least-one : (ks : List Keyword) → 1 ≤ length ks → length (nth ks 0 .word) ≡ shortest (take 1 ks)
+unfolding shortest
+least-one [] h = absurd (omega arith)
+least-one (k ∷ ks) h = refl
+
+pub new-none : (ks : List Keyword) (w : List ℕ) → isKeyword (take 0 ks) w ≡ false
+unfolding isKeyword any
+new-none ks w = refl
+
+-- one more: the keyword at place i
+module _ (ks : List Keyword) (i : ℕ) (h : i < length ks) where
+  pub front-more : take (i + 1) ks ≡ take i ks ++ (nth ks i ∷ [])
+  front-more = rw (add-one i) (take-suc ks i noKeyword h)
+
+  pub most-more : (way : R.Way) (w : List ℕ) → mostCommon (earlier way ks (i + 1)) w ≡ max (mostCommon (earlier way ks i) w) (common (readAt way ks i) w)
+  unfolding earlier readAt mostCommon
+  most-more way w =
+      let read : Keyword → List ℕ = λ k. R.readBy way (k .word) in
+      rw (front-more, map-append read (take i ks) (nth ks i ∷ []))
+      (omega (arith, mostCommon-append (map read (take i ks)) (read (nth ks i) ∷ []) w))
+
+  -- it adds the rows that no earlier one begins with
+  pub rows-more : (way : R.Way) → length (R.rowsOf way (take (i + 1) ks)) ≡ length (R.rowsOf way (take i ks)) + (length (nth ks i .word) - mostCommon (earlier way ks i) (readAt way ks i))
+  unfolding earlier readAt
+  rows-more way = rw front-more (rowsOf-count way (take i ks) (nth ks i))
+
+  pub least-more : 1 ≤ i → shortest (take (i + 1) ks) ≡ min (shortest (take i ks)) (length (nth ks i .word))
+  least-more some = rw front-more (shortest-more (take i ks) (nth ks i) (omega (arith, length-take i ks)))
+
+  pub new-more : (w : List ℕ) → isKeyword (take i ks) w ≡ false → same (nth ks i .word) w ≡ false → isKeyword (take (i + 1) ks) w ≡ false
+  new-more w p q = rw (front-more, isKeyword-more (take i ks) (nth ks i) w, p, q)
+
+  -- earlier ones begin with no more than all of it
+  pub most-within : (way : R.Way) → length (readAt way ks i) ≡ length (nth ks i .word) → mostCommon (earlier way ks i) (readAt way ks i) ≤ length (nth ks i .word)
+  most-within way long = omega (arith, mostCommon-le (earlier way ks i) (readAt way ks i), long)
+
+-- an earlier keyword that is the word w
+pub old-once : (ks : List Keyword) (w : List ℕ) (i j : ℕ) → j < i → j < length ks → same (nth ks j .word) w ≡ true → isKeyword (take i ks) w ≡ true
+unfolding isKeyword
+old-once ks w i j h q p =
+    any-at (λ (k : Keyword). same (k .word) w) (take i ks) j noKeyword (omega (arith, length-take i ks))
+    (rw (getD-take i ks j noKeyword h) p)

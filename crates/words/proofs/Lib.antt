@@ -1,0 +1,6 @@
+-- Laws of the list of words that the proofs of the functions and of their callers lean on.
+pub mod Entries
+pub mod Compared
+pub mod Counted
+pub mod Places
+pub mod Storing

@@ -1,0 +1,70 @@
+-- No keyword passed has the units of the one at place i, so one that has them decides, and none does where all were passed.
+use Prim.Native.Nat.{_-_, _≤_}
+use mathlib.Core.Path.{_≡_, sym, _∙_}
+use mathlib.Core.Bool.{false}
+use denote.Ref.{now}
+use lib.ListN.{take}
+use native.Mathlib.Omega.{arith}
+use Rattle.rules.specs.Sets.{isKeyword}
+use Rattle.rules.specs.Sound.{nth}
+use Rattle.words.specs.Entries.{keywordsIn}
+use Rattle.words.proofs.Entries.{has-at}
+use Rattle.words.proofs.Counted.{new-none, new-more, old-once}
+use Rattle.words.proofs.repeated.Statement.{statement}
+use Rattle.words.proofs.repeated.Tie as tie
+
+abbrev Inv-loop : tie.InvT-loop
+Inv-loop words i n j₀ j = (j ≤ i) × (isKeyword (take j (keywordsIn words)) (nth (keywordsIn words) i .word) ≡ false)
+
+abbrev μ-loop : tie.MeasureT-loop
+μ-loop words i n j₀ j = i - j
+
+length-of-requires : tie.Need-length-of-requires Inv-loop μ-loop
+length-of-requires c κs = c .before .pre
+
+loop-holds : tie.Need-loop-holds Inv-loop μ-loop
+loop-holds c = (omega arith, new-none (keywordsIn (now (c .before .before .args .words))) _)
+
+same-word-requires : tie.Need-same-word-requires Inv-loop μ-loop
+same-word-requires c κs =
+    let p = c .before .before .before .before .pre in
+    (has-at (p .words) (omega (arith, p .within)), p, c .before .before .length-of .ensures .0)
+
+returns : tie.Need-returns Inv-loop μ-loop
+returns c =
+    let p = c .before .before .before .before .before .before .pre in
+    sym
+    (old-once _ _ _ _ (c .before .before .loop-test .taken) (omega (arith, p .within)) (sym (c .before .same-word .ensures) ∙ c .if1 .taken))
+
+add-j : tie.Need-add-j Inv-loop μ-loop
+add-j c = omega arith
+
+loop-less : tie.Need-loop-less Inv-loop μ-loop
+loop-less c = omega arith
+
+loop-again : tie.Need-loop-again Inv-loop μ-loop
+loop-again c =
+    let p = c .before .before .before .before .before .before .pre in (
+      omega arith,
+      new-more (keywordsIn (now (c .before .before .before .before .before .before .args .words))) (c .before .before .before .loop .j) (omega (arith, p .within)) _ (c .before .before .before .loop .inv .1) (sym (c .before .same-word .ensures) ∙ c .if1 .left),
+    )
+
+returns-2 : tie.Need-returns-2 Inv-loop μ-loop
+returns-2 c =
+    let all : c .before .loop .j ≡ c .before .before .before .before .args .i = omega arith in
+    sym (rw all at (c .before .loop .inv .1))
+
+pub repeated-spec : {M : Type 1} → statement M
+repeated-spec =
+    tie.close
+    (tie.spec
+    Inv-loop
+    μ-loop
+    length-of-requires
+    loop-holds
+    same-word-requires
+    returns
+    add-j
+    loop-less
+    loop-again
+    returns-2)
