@@ -6,10 +6,10 @@ use mathlib.Core.Path.{_≡_, sym}
 use mathlib.Core.List.{List, [], _∷_, _++_, map, map-append, reverse, reverse-cons, append-assoc, append-nil}
 use lib.ListN.{length, take, drop, getD, length-append, length-take, length-map, length-reverse, length-drop, drop-of-length-le}
 use lib.Seq.{drop-cons, getD-take}
-use Rattle.rules.specs.Limits.{mostEnergy}
-use Rattle.rules.specs.Hits.{Hit, energy}
-use Rattle.rules.proofs.Hits.{energy-append}
-use Rattle.words.specs.Entries.{keywordsIn}
+use Rattle.rules.specs.sets.Limits.{mostEnergy}
+use Rattle.rules.specs.scans.Hits.{Hit, energy}
+use Rattle.rules.proofs.scans.Hits.{energy-append}
+use Rattle.words.specs.Items.{keywordsIn}
 use Rattle.hits.specs.declared.Tally.{Tally}
 use Rattle.hits.specs.Tallies.{Tallied, Hitting, hitOf}
 use Rattle.hits.proofs.Tallying.{hitting-figure}

@@ -1,8 +1,9 @@
--- The move is the definition's, since the code takes the lesser and the greater of the files' numbers by the same cases.
+-- The move is the definition's, since the code takes the lesser and the greater of the files' numbers by the same
+-- cases.
 use Prim.Native.Nat.{ℕ, zero, suc, min, max}
 use mathlib.Core.Path.{_≡_, refl}
 use mathlib.Core.List.{List}
-use Rattle.rules.specs.Runs.{innerIn, edgeIn, farIn, missing, moveBy}
+use Rattle.rules.specs.skips.Runs.{innerIn, edgeIn, farIn, missing, moveBy}
 use Rattle.backward.specs.Windowed.{moveIn, stopAt}
 
 pub stopAt-missing : (left c : ℕ) → (left ≡ 0 → ⊥) → stopAt left c ≡ missing c

@@ -1,4 +1,5 @@
--- The scan's answer and what it leaves: the tests decide, and where they pass the run has found all that the trace holds.
+-- The scan's answer and what it leaves: the tests decide, and where they pass the run has found all that the trace
+-- holds.
 use Prim.Native.Nat.{ℕ, suc, _*_, _≤_, _<_}
 use native.Mathlib.Omega.{arith}
 use mathlib.Core.Path.{_≡_}
@@ -6,18 +7,18 @@ use mathlib.Core.List.{List, List·Memᴰ}
 use lib.ListN.{length}
 use Rattle.rules.specs.declared.Refusal.{Refusal}
 use Rattle.rules.specs.declared.Scanned.{Scanned}
-use Rattle.rules.specs.Limits.{longestTrace, longestWord, opcodes}
-use Rattle.rules.specs.Sets.{Keyword, keywords}
-use Rattle.rules.specs.Rows.{backward, cells}
-use Rattle.rules.specs.Hits.{over}
-use Rattle.rules.specs.Refusals.{Verdict, pass, refuse, orElse, fileVerdict, entryVerdict, tableVerdict}
-use Rattle.rules.specs.Answers.{Told, told, numberOf, placeOf}
-use Rattle.rules.specs.Promises.{Backward, backwardEntry, BackwardOf, onPass, kept, answerOr, withRows, backwardTold}
-use Rattle.rules.specs.Sound.{Sound}
-use Rattle.rules.proofs.Verdicts.{pass-orElse, refuse-orElse}
-use Rattle.rules.proofs.Hits.{hits-few}
-use Rattle.rules.proofs.Runs.{run-asks}
-use Rattle.words.specs.Entries.{Words, keywordsIn}
+use Rattle.rules.specs.sets.Limits.{longestTrace, longestWord, opcodes}
+use Rattle.rules.specs.sets.Sets.{Keyword, keywords}
+use Rattle.rules.specs.rows.Rows.{backward, cells}
+use Rattle.rules.specs.scans.Hits.{over}
+use Rattle.rules.specs.answers.Refusals.{Verdict, pass, refuse, orElse, fileVerdict, entryVerdict, tableVerdict}
+use Rattle.rules.specs.answers.Answers.{Told, told, numberOf, placeOf}
+use Rattle.rules.specs.answers.Promises.{Backward, backwardEntry, BackwardOf, onPass, kept, answerOr, withRows, backwardTold}
+use Rattle.rules.specs.Beside.{Sound}
+use Rattle.rules.proofs.answers.Verdicts.{pass-orElse, refuse-orElse}
+use Rattle.rules.proofs.scans.Hits.{hits-few}
+use Rattle.rules.proofs.skips.Runs.{run-asks}
+use Rattle.words.specs.Items.{Words, keywordsIn}
 use Rattle.sets.proofs.Opened.{Opened}
 use Rattle.rows.proofs.Entering.{Entry}
 use Rattle.rows.proofs.Laying.{over-laid}

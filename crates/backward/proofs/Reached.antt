@@ -10,18 +10,18 @@ use lib.ListN.{length, take, getD, set, length-append, length-set}
 use lib.Seq.{take-suc, take-suc-set, getD-set-same, getD-set-other}
 use lib.Dec.{eqb}
 use borrow.Author.Tests.{eqb-true, eqb-false}
-use Rattle.rules.specs.Limits.{longestWord, longestTrace, rowCells, opcodes}
-use Rattle.rules.specs.Strings.{same, any}
-use Rattle.rules.specs.Sets.{Keyword, keywordsThatAre}
-use Rattle.rules.specs.Rows.{backward, readBy, prefixes, rowsOf, rowOf, keyOf}
-use Rattle.rules.specs.Sound.{Sound, numbered}
-use Rattle.rules.specs.Runs.{Stop, start, missing, windowFrom, windowAt, askedOf, asked, entered}
-use Rattle.rules.proofs.Strings.{either}
-use Rattle.rules.proofs.Rows.{rowed-rows, rowOf-is, rowOf-nil, root-row}
-use Rattle.rules.proofs.PrefixRows.{row-short}
-use Rattle.rules.proofs.KeyNumbers.{KeyAt, key-none, key-at, numbered-is}
-use Rattle.rules.proofs.Windows.{window-more, window-stop, entered-more}
-use Rattle.words.specs.Entries.{keywordsIn}
+use Rattle.rules.specs.sets.Limits.{longestWord, longestTrace, rowCells, opcodes}
+use Rattle.rules.specs.strings.Strings.{same, any}
+use Rattle.rules.specs.sets.Sets.{Keyword, keywordsThatAre}
+use Rattle.rules.specs.rows.Rows.{backward, readBy, prefixes, rowsOf, rowOf, keyOf}
+use Rattle.rules.specs.skips.Runs.{Stop, start, missing, windowFrom, windowAt, askedOf, asked, entered}
+use Rattle.rules.specs.Beside.{Sound, numbered}
+use Rattle.rules.proofs.strings.Strings.{either}
+use Rattle.rules.proofs.rows.Rows.{rowed-rows, rowOf-is, rowOf-nil, root-row}
+use Rattle.rules.proofs.rows.PrefixRows.{row-short}
+use Rattle.rules.proofs.rows.KeyNumbers.{KeyAt, key-none, key-at, numbered-is}
+use Rattle.rules.proofs.skips.Windows.{window-more, window-stop, entered-more}
+use Rattle.words.specs.Items.{keywordsIn}
 use Rattle.rows.specs.declared.tree.Asked.{Asked}
 use Rattle.rows.specs.Tree.{Answered}
 use Rattle.rows.proofs.Walk.{answered-none, answered-child}
@@ -211,7 +211,8 @@ module _ {l t rowf bytef ws : List ℕ} (safe : Safe l t rowf bytef ws)
           let number : getD ws (rowCells * r .child + 4) 0 - 1 ≡ w .0 .number = omega (arith, key-is, w .1 .number) in
           rw number (grown small (kept-key (reached .kept) (lastOf t left) (safe .sound) (w .0) (w .1) child-free))
 
--- The whole window at `end`: it stopped at `row`, with the bytes before `left` not read, and the numbers kept give its hits.
+-- The whole window at `end`: it stopped at `row`, with the bytes before `left` not read, and the numbers kept give
+-- its hits.
 pub record Stopped (l t : List ℕ) (end begun questions : ℕ) (keys : List ℕ) (met byte left row : ℕ) : Type 0 where
   pub number : row ≡ rowOf (rowsIn l) (windowAt (rowsIn l) t end .read)
   pub depth : length (windowAt (rowsIn l) t end .read) + left ≡ end

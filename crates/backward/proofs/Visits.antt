@@ -5,20 +5,20 @@ use native.Mathlib.Omega.{arith}
 use mathlib.Core.Path.{_≡_, sym, _∙_, ap}
 use mathlib.Core.List.{List, [], _++_, map, map-map, flatMap, reverse, append-assoc, append-nil, Memᴰ·append-left}
 use lib.ListN.{length, take, length-append, length-take, length-map, length-reverse}
-use Rattle.rules.specs.Limits.{longestWord, longestTrace}
-use Rattle.rules.specs.Sets.{Keyword}
-use Rattle.rules.specs.Rows.{backward}
-use Rattle.rules.specs.Hits.{Hit, hits}
-use Rattle.rules.specs.Runs.{edgeIn, windowAt, move, entered, windowHits, visits, runHits, asked, askedAll, runQuestions}
-use Rattle.rules.specs.Audit.{Accepted}
-use Rattle.rules.specs.Sound.{numbered}
-use Rattle.rules.proofs.Hits.{hits-few, hits-occur, energy-most}
-use Rattle.rules.proofs.Rows.{rowOf-is, rowed-rows}
-use Rattle.rules.proofs.Windows.{window-reading, window-short}
-use Rattle.rules.proofs.Tables.{accepted-exactly}
-use Rattle.rules.proofs.Runs.{Sure, accepted-sure, move-allowed, run-hits, run-asks}
-use Rattle.rules.proofs.Ahead.{ahead, ahead-none, ahead-more}
-use Rattle.words.specs.Entries.{keywordsIn}
+use Rattle.rules.specs.sets.Limits.{longestWord, longestTrace}
+use Rattle.rules.specs.sets.Sets.{Keyword}
+use Rattle.rules.specs.rows.Rows.{backward}
+use Rattle.rules.specs.scans.Hits.{Hit, hits}
+use Rattle.rules.specs.skips.Runs.{edgeIn, windowAt, move, entered, windowHits, visits, runHits, asked, askedAll, runQuestions}
+use Rattle.rules.specs.scans.Audit.{Accepted}
+use Rattle.rules.specs.Beside.{numbered}
+use Rattle.rules.proofs.scans.Hits.{hits-few, hits-occur, energy-most}
+use Rattle.rules.proofs.rows.Rows.{rowOf-is, rowed-rows}
+use Rattle.rules.proofs.skips.Windows.{window-reading, window-short}
+use Rattle.rules.proofs.skips.Tables.{accepted-exactly}
+use Rattle.rules.proofs.skips.Runs.{Sure, accepted-sure, move-allowed, run-hits, run-asks}
+use Rattle.rules.proofs.skips.Ahead.{ahead, ahead-none, ahead-more}
+use Rattle.words.specs.Items.{keywordsIn}
 use Rattle.hits.specs.declared.Tally.{Tally}
 use Rattle.hits.specs.Tallies.{Tallied, hitOf}
 use Rattle.hits.proofs.Tallying.{tallied-length}
@@ -37,7 +37,7 @@ abbrev pub askedAhead : List ℕ → List ℕ → List ℕ → List ℕ → ℕ 
 askedAhead l t rowf bytef end = askedAll (rowsIn l) t (ahead (rowsIn l) rowf bytef t end)
 
 -- before the window at `end`, in a run that began with the hit buffer `old`
-pub record Running (l t rowf bytef old hs : List ℕ) (tally : Tally) (questions : ℕ) (keys : List ℕ) (end : ℕ) : Type 0 where
+pub record Underway (l t rowf bytef old hs : List ℕ) (tally : Tally) (questions : ℕ) (keys : List ℕ) (end : ℕ) : Type 0 where
   pub some : 1 ≤ end
   pub long : length keys ≡ longestWord
   pub done : List Hit
@@ -57,13 +57,13 @@ module _ {l t rowf bytef ws : List ℕ} (safe : Safe l t rowf bytef ws) where
   first-room = omega (arith, accepted .rowSize, rowed-rows backward (keywordsIn l) .some)
 
   -- before the first window
-  pub running-none : (old : List ℕ) (tally : Tally) (keys : List ℕ) (end : ℕ)
+  pub underway-none : (old : List ℕ) (tally : Tally) (keys : List ℕ) (end : ℕ)
       → Tallied [] old tally old
       → length keys ≡ longestWord
       → end ≡ edgeIn rowf 0
-      → Running l t rowf bytef old old tally 0 keys end
+      → Underway l t rowf bytef old old tally 0 keys end
   unfolding runHits runQuestions visits
-  running-none old tally keys end tallied long first =
+  underway-none old tally keys end tallied long first =
       record {
         some = rw first (accepted .edges 0 (rowed-rows backward (keywordsIn l) .some) .some);
         long = long;
@@ -74,19 +74,19 @@ module _ {l t rowf bytef ws : List ℕ} (safe : Safe l t rowf bytef ws) where
       }
 
   module _ {old hs : List ℕ} {tally : Tally} {questions : ℕ} {keys₀ : List ℕ} {end : ℕ}
-      (running : Running l t rowf bytef old hs tally questions keys₀ end) where
+      (running : Underway l t rowf bytef old hs tally questions keys₀ end) where
     -- the counters have room
-    pub running-few : questions ≤ suc longestWord * longestTrace
-    running-few = omega (arith, running .counted, run-asks (safe .sound) rowf bytef t, safe .near)
+    pub underway-few : questions ≤ suc longestWord * longestTrace
+    underway-few = omega (arith, running .counted, run-asks (safe .sound) rowf bytef t, safe .near)
 
-    pub running-length : length hs ≡ length old
-    running-length = tallied-length (running .tallied)
+    pub underway-length : length hs ≡ length old
+    underway-length = tallied-length (running .tallied)
 
     -- beyond the trace: all is found
-    pub running-all : length t < end
+    pub underway-all : length t < end
         → Ran (keywordsIn l) t rowf bytef old (record { tally = tally; questions = questions }) hs
     unfolding flatMap askedAll
-    running-all beyond =
+    underway-all beyond =
         let none : ahead (rowsIn l) rowf bytef t end ≡ [] = ahead-none (rowsIn l) rowf bytef t end beyond in
         let all : running .done ≡ hits (keywordsIn l) t =
         sym (append-nil (running .done)) ∙ (rw none at (running .joined)) in
@@ -181,12 +181,12 @@ module _ {l t rowf bytef ws : List ℕ} (safe : Safe l t rowf bytef ws) where
       pub window-some : 1 ≤ moveIn rowf bytef row (end - left) left byte
       window-some = rw window-move (move-allowed (safe .sound) accepted t (safe .bytes) end .some)
 
-      pub running-more : {tally′ : Tally} {hs′ : List ℕ} (n : ℕ)
+      pub underway-more : {tally′ : Tally} {hs′ : List ℕ} (n : ℕ)
           → n ≡ moveIn rowf bytef row (end - left) left byte
           → Tallied (running .done ++ windowOf (keywordsIn l) end keys met) old tally′ hs′
-          → Running l t rowf bytef old hs′ tally′ questions′ keys (end + n)
+          → Underway l t rowf bytef old hs′ tally′ questions′ keys (end + n)
       unfolding askedAll
-      running-more n moved tallied =
+      underway-more n moved tallied =
           let here : n ≡ stepAt l t rowf bytef end = moved ∙ window-move in
           let all : askedAhead l t rowf bytef end
           ≡ asked (windowAt (rowsIn l) t end) + askedAhead l t rowf bytef (end + stepAt l t rowf bytef end) =

@@ -3,14 +3,14 @@ use Prim.Native.Nat.{ℕ, zero, suc, _+_, _*_, _≤_, _<_}
 use mathlib.Core.Path.{_≡_}
 use mathlib.Core.List.{List, map, reverse, List·Memᴰ}
 use lib.ListN.{length, take, getD}
-use Rattle.rules.specs.Limits.{longestWord, longestTrace, rowRecord, depths, opcodes, byteFileSize, mostEnergy}
-use Rattle.rules.specs.Sets.{Keyword}
-use Rattle.rules.specs.Rows.{backward}
-use Rattle.rules.specs.Hits.{Hit, hits, energy}
-use Rattle.rules.specs.Runs.{innerIn, edgeIn, farIn, Stop, start, missing, moveBy, runQuestions}
-use Rattle.rules.specs.Refusals.{pass, tableVerdict}
-use Rattle.rules.specs.Sound.{Sound}
-use Rattle.words.specs.Entries.{Words, keywordsIn}
+use Rattle.rules.specs.sets.Limits.{longestWord, longestTrace, rowRecord, depths, opcodes, byteFileSize, mostEnergy}
+use Rattle.rules.specs.sets.Sets.{Keyword}
+use Rattle.rules.specs.rows.Rows.{backward}
+use Rattle.rules.specs.scans.Hits.{Hit, hits, energy}
+use Rattle.rules.specs.skips.Runs.{innerIn, edgeIn, farIn, Stop, start, missing, moveBy, runQuestions}
+use Rattle.rules.specs.answers.Refusals.{pass, tableVerdict}
+use Rattle.rules.specs.Beside.{Sound}
+use Rattle.words.specs.Items.{Words, keywordsIn}
 use Rattle.rows.specs.Laid.{Laid}
 use Rattle.hits.specs.Tallies.{Tallied, Named, hitOf}
 use Rattle.hits.specs.declared.Tally.{Tally}

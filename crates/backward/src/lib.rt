@@ -15,19 +15,19 @@ use rules::Totals;
 use rules::Way;
 use sets::read;
 use skips::judge::judge;
-use words::ENTRY;
+use words::ITEM;
 use words::LIST;
 ghost use mathlib.Core.Path.{_≡_};
 ghost use mathlib.Core.List.{List, _++_};
 ghost use Prim.Native.Nat.{ℕ, _<_};
 ghost use lib.ListN.{length};
-ghost use Rattle.rules.specs.Rows.{backward};
-ghost use Rattle.rules.specs.Hits.{Hit};
-ghost use Rattle.rules.specs.Refusals.{entryVerdict};
-ghost use Rattle.rules.specs.Answers.{told};
-ghost use Rattle.rules.specs.Promises.{Backward, BackwardOf};
-ghost use Rattle.rules.specs.Sound.{Sound};
-ghost use Rattle.words.specs.Entries.{Words, keywordsIn};
+ghost use Rattle.rules.specs.rows.Rows.{backward};
+ghost use Rattle.rules.specs.scans.Hits.{Hit};
+ghost use Rattle.rules.specs.answers.Refusals.{entryVerdict};
+ghost use Rattle.rules.specs.answers.Answers.{told};
+ghost use Rattle.rules.specs.answers.Promises.{Backward, BackwardOf};
+ghost use Rattle.rules.specs.Beside.{Sound};
+ghost use Rattle.words.specs.Items.{Words, keywordsIn};
 ghost use Rattle.hits.specs.Tallies.{Tallied};
 ghost use Rattle.backward.specs.Windowed.{Moving, moveIn, Closing, windowOf, Safe, Ran};
 
@@ -38,8 +38,8 @@ fn wide(b: u8) -> usize
     b as usize
 }
 
-// How far a window moves on that stopped at a row of some depth: by edge where no byte was left unread before it, else by the
-// lesser of edge and the greater of inner and far.
+// How far a window moves on that stopped at a row of some depth: by edge where no byte was left unread before it,
+// else by the lesser of edge and the greater of inner and far.
 fn move_on(
     row_file: &[u8],
     byte_file: &[u8],
@@ -214,7 +214,7 @@ pub fn scan(
     match found {
         Counted::Refused(fault) => Scanned::Refused(fault),
         Counted::Number(count) => {
-            let end = ENTRY * count as usize;
+            let end = ITEM * count as usize;
             scan_words(&list[..end], trace, row_file, byte_file, workspace, hits)
         }
     }

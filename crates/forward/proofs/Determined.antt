@@ -2,7 +2,7 @@
 use Prim.Native.Nat.{ℕ}
 use mathlib.Core.Path.{_≡_}
 use mathlib.Core.List.{List}
-use Rattle.rules.specs.Sets.{Keyword}
+use Rattle.rules.specs.sets.Sets.{Keyword}
 use Rattle.hits.proofs.Determined.{tallied-determined}
 use Rattle.forward.specs.declared.Running.{Running}
 use Rattle.forward.specs.Progress.{Scanning}

@@ -1,5 +1,5 @@
--- The hits at an end are listed along the dictionary rows: what is listed and what still ends the row's string are always
--- all the hits, and each row's string is shorter than the one before.
+-- The hits at an end are listed along the dictionary rows: what is listed and what still ends the row's string are
+-- always all the hits, and each row's string is shorter than the one before.
 use Prim.Native.Nat.{ℕ, suc, _+_, _-_, _*_, _≤_, _<_}
 use native.Mathlib.Omega.{arith}
 use mathlib.Core.Path.{_≡_, sym, _∙_, ap}
@@ -7,20 +7,20 @@ use mathlib.Core.Logic.{_⊎_, ⊎-elim}
 use mathlib.Core.Bool.{true}
 use mathlib.Core.List.{List, [], _∷_, _++_, map, append-assoc, append-nil, List·Memᴰ, Memᴰ·append-left}
 use lib.ListN.{length, getD, length-append}
-use Rattle.rules.specs.Limits.{rowCells, longestTrace}
-use Rattle.rules.specs.Strings.{same, any, longestBehind}
-use Rattle.rules.specs.Sets.{Keyword, isKeyword}
-use Rattle.rules.specs.Rows.{forward, readBy, rowOf, keyOf, dictionaryCell}
-use Rattle.rules.specs.Hits.{Hit, endingAt, hitsAt, hits}
-use Rattle.rules.proofs.Strings.{never}
-use Rattle.rules.proofs.Rows.{rowed-rows, rowOf-is, rowOf-nil, root-row, keyword-row}
-use Rattle.rules.proofs.Children.{row-filled}
-use Rattle.rules.proofs.State.{behind-or, behind-length}
-use Rattle.rules.proofs.Dictionary.{isKeyword-true, ending-state, ending-nil, ending-behind}
-use Rattle.rules.proofs.Keys.{no-key-no-keyword}
-use Rattle.rules.proofs.KeyNumbers.{KeyAt, key-at, key-none, numbered-is}
-use Rattle.rules.proofs.Hits.{hits-snoc, hits-few, hits-occur, energy-most}
-use Rattle.words.specs.Entries.{keywordsIn}
+use Rattle.rules.specs.sets.Limits.{rowCells, longestTrace}
+use Rattle.rules.specs.strings.Strings.{same, any, longestBehind}
+use Rattle.rules.specs.sets.Sets.{Keyword, isKeyword}
+use Rattle.rules.specs.rows.Rows.{forward, readBy, rowOf, keyOf, dictionaryCell}
+use Rattle.rules.specs.scans.Hits.{Hit, endingAt, hitsAt, hits}
+use Rattle.rules.proofs.strings.Strings.{never}
+use Rattle.rules.proofs.rows.Rows.{rowed-rows, rowOf-is, rowOf-nil, root-row, keyword-row}
+use Rattle.rules.proofs.rows.Children.{row-filled}
+use Rattle.rules.proofs.scans.State.{behind-or, behind-length}
+use Rattle.rules.proofs.scans.Dictionary.{isKeyword-true, ending-state, ending-nil, ending-behind}
+use Rattle.rules.proofs.rows.Keys.{no-key-no-keyword}
+use Rattle.rules.proofs.rows.KeyNumbers.{KeyAt, key-at, key-none, numbered-is}
+use Rattle.rules.proofs.scans.Hits.{hits-snoc, hits-few, hits-occur, energy-most}
+use Rattle.words.specs.Items.{keywordsIn}
 use Rattle.hits.specs.declared.Tally.{Tally}
 use Rattle.hits.specs.Tallies.{Tallied, Hitting, hitOf}
 use Rattle.forward.specs.Progress.{AllFound, Equipped, Ending}

@@ -7,18 +7,18 @@ use mathlib.Core.List.{List, []}
 use lib.ListN.{length}
 use Rattle.rules.specs.declared.Refusal.{Refusal}
 use Rattle.rules.specs.declared.Scanned.{Scanned}
-use Rattle.rules.specs.Limits.{longestTrace, longestWord}
-use Rattle.rules.specs.Sets.{Keyword, keywords}
-use Rattle.rules.specs.Rows.{forward, cells}
-use Rattle.rules.specs.Hits.{over}
-use Rattle.rules.specs.Refusals.{Verdict, pass, refuse, fileVerdict, entryVerdict}
-use Rattle.rules.specs.Answers.{Told, told, numberOf, placeOf}
-use Rattle.rules.specs.Promises.{Forward, forwardVerdict, ForwardOf, onPass, kept, answerOr, withRows, forwardTold}
-use Rattle.rules.specs.Sound.{Sound}
-use Rattle.rules.proofs.Verdicts.{pass-orElse, refuse-orElse}
-use Rattle.rules.proofs.Hits.{hits-few}
-use Rattle.rules.proofs.Questions.{questions-bound}
-use Rattle.words.specs.Entries.{Words, keywordsIn}
+use Rattle.rules.specs.sets.Limits.{longestTrace, longestWord}
+use Rattle.rules.specs.sets.Sets.{Keyword, keywords}
+use Rattle.rules.specs.rows.Rows.{forward, cells}
+use Rattle.rules.specs.scans.Hits.{over}
+use Rattle.rules.specs.answers.Refusals.{Verdict, pass, refuse, fileVerdict, entryVerdict}
+use Rattle.rules.specs.answers.Answers.{Told, told, numberOf, placeOf}
+use Rattle.rules.specs.answers.Promises.{Forward, forwardVerdict, ForwardOf, onPass, kept, answerOr, withRows, forwardTold}
+use Rattle.rules.specs.Beside.{Sound}
+use Rattle.rules.proofs.answers.Verdicts.{pass-orElse, refuse-orElse}
+use Rattle.rules.proofs.scans.Hits.{hits-few}
+use Rattle.rules.proofs.scans.Questions.{questions-bound}
+use Rattle.words.specs.Items.{Words, keywordsIn}
 use Rattle.sets.proofs.Opened.{Opened}
 use Rattle.rows.proofs.Entering.{Entry}
 use Rattle.rows.proofs.Laying.{over-laid}

@@ -8,19 +8,19 @@ use mathlib.Core.Bool.{Bool, true}
 use mathlib.Core.List.{List, [], _∷_, _++_, append-nil, append-assoc}
 use lib.ListN.{length, take, getD, length-append, length-take}
 use lib.Seq.{take-suc}
-use Rattle.rules.specs.Limits.{longestWord, longestTrace}
-use Rattle.rules.specs.Strings.{same, any, longest, longestBehind}
-use Rattle.rules.specs.Sets.{Keyword}
-use Rattle.rules.specs.Rows.{forward, starts, rowsOf, rowOf, failureCell}
-use Rattle.rules.specs.Hits.{hits, hitsAfter}
-use Rattle.rules.specs.Questions.{questionsAt, questionsAfter, questions}
-use Rattle.rules.specs.Sound.{Sound}
-use Rattle.rules.proofs.Rows.{root-row, rowed-rows, row-at, rowOf-is, rowOf-nil, starts-closed}
-use Rattle.rules.proofs.PrefixRows.{filled-rows, row-short}
-use Rattle.rules.proofs.State.{askedBy, asked-state, longest-nil, longest-passes, longest-state}
-use Rattle.rules.proofs.Questions.{questions-more, questions-bound}
-use Rattle.words.specs.Entries.{keywordsIn}
-use Rattle.rows.specs.Falls.{isRow, Ready, Moved}
+use Rattle.rules.specs.sets.Limits.{longestWord, longestTrace}
+use Rattle.rules.specs.strings.Strings.{same, any, longest, longestBehind}
+use Rattle.rules.specs.sets.Sets.{Keyword}
+use Rattle.rules.specs.rows.Rows.{forward, starts, rowsOf, rowOf, failureCell, isRow}
+use Rattle.rules.specs.scans.Hits.{hits, hitsAfter}
+use Rattle.rules.specs.scans.Questions.{questionsAt, questionsAfter, questions}
+use Rattle.rules.specs.Beside.{Sound}
+use Rattle.rules.proofs.rows.Rows.{root-row, rowed-rows, row-at, rowOf-is, rowOf-nil, starts-closed}
+use Rattle.rules.proofs.rows.PrefixRows.{filled-rows, row-short}
+use Rattle.rules.proofs.scans.State.{askedBy, asked-state, longest-nil, longest-passes, longest-state}
+use Rattle.rules.proofs.scans.Questions.{questions-more, questions-bound}
+use Rattle.words.specs.Items.{keywordsIn}
+use Rattle.rows.specs.Falls.{Ready, Moved}
 use Rattle.rows.specs.declared.failures.Advanced.{Advanced}
 use Rattle.forward.specs.declared.Running.{Running}
 use Rattle.hits.specs.declared.Tally.{Tally}
@@ -35,7 +35,6 @@ abbrev pub startsIn : List ℕ → List ℕ → Bool
 startsIn l = starts forward (keywordsIn l)
 
 pub row-starts : {ks : List Keyword} → Sound ks → isRow (rowsOf forward ks) ≡ starts forward ks
-unfolding isRow
 row-starts {ks} sound = λ i r. filled-rows forward ks (sound .some) r i
 
 module _ {l ws : List ℕ} (equipped : Equipped l ws) (u : List ℕ) where
@@ -81,7 +80,8 @@ module _ {l ws : List ℕ} (equipped : Equipped l ws) (u : List ℕ) where
       unfolding askedBy questionsAt
       moved-asked =
           moved .asked
-          ∙ rw (row-starts (equipped .sound), state-reads) (sym (asked-state (startsIn l) u c))
+          ∙ ap (λ (p : List ℕ → Bool). askedBy p (getD (rowsIn l) row []) c) (row-starts (equipped .sound))
+          ∙ rw state-reads (sym (asked-state (startsIn l) u c))
 
 -- nothing read
 pub scanning-none : (ks : List Keyword) (old : List ℕ) {tally : Tally}

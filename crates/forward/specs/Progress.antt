@@ -3,14 +3,14 @@ use Prim.Native.Nat.{ℕ, _+_, _≤_, _<_}
 use mathlib.Core.Path.{_≡_}
 use mathlib.Core.List.{List, [], _∷_, _++_}
 use lib.ListN.{length}
-use Rattle.rules.specs.Limits.{longestTrace}
-use Rattle.rules.specs.Strings.{longest}
-use Rattle.rules.specs.Sets.{Keyword}
-use Rattle.rules.specs.Rows.{forward, starts, rowsOf, rowOf}
-use Rattle.rules.specs.Hits.{hits}
-use Rattle.rules.specs.Questions.{questions}
-use Rattle.rules.specs.Sound.{Sound}
-use Rattle.words.specs.Entries.{Words, keywordsIn}
+use Rattle.rules.specs.sets.Limits.{longestTrace}
+use Rattle.rules.specs.strings.Strings.{longest}
+use Rattle.rules.specs.sets.Sets.{Keyword}
+use Rattle.rules.specs.rows.Rows.{forward, starts, rowsOf, rowOf}
+use Rattle.rules.specs.scans.Hits.{hits}
+use Rattle.rules.specs.scans.Questions.{questions}
+use Rattle.rules.specs.Beside.{Sound}
+use Rattle.words.specs.Items.{Words, keywordsIn}
 use Rattle.rows.specs.Laid.{Laid}
 use Rattle.hits.specs.declared.Tally.{Tally}
 use Rattle.hits.specs.Tallies.{Tallied}

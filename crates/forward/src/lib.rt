@@ -12,22 +12,22 @@ use rules::Scanned;
 use rules::Totals;
 use rules::Way;
 use sets::read;
-use words::ENTRY;
+use words::ITEM;
 use words::LIST;
 ghost use mathlib.Core.List.{List, [], _∷_, _++_};
 ghost use Prim.Native.Nat.{ℕ};
 ghost use lib.ListN.{length};
-ghost use Rattle.rules.specs.Sets.{Keyword};
-ghost use Rattle.rules.specs.Rows.{forward};
-ghost use Rattle.rules.specs.Sound.{Sound};
-ghost use Rattle.rules.specs.Refusals.{entryVerdict};
-ghost use Rattle.rules.specs.Answers.{told};
-ghost use Rattle.rules.specs.Promises.{Forward, ForwardOf};
-ghost use Rattle.words.specs.Entries.{Words, keywordsIn};
+ghost use Rattle.rules.specs.sets.Sets.{Keyword};
+ghost use Rattle.rules.specs.rows.Rows.{forward};
+ghost use Rattle.rules.specs.answers.Refusals.{entryVerdict};
+ghost use Rattle.rules.specs.answers.Answers.{told};
+ghost use Rattle.rules.specs.answers.Promises.{Forward, ForwardOf};
+ghost use Rattle.rules.specs.Beside.{Sound};
+ghost use Rattle.words.specs.Items.{Words, keywordsIn};
 ghost use Rattle.forward.specs.Progress.{AllFound, Scanning, Ending, Going};
 
-// A scan under way: the row that stands for what was read, how many bytes that were, how many questions they took, and the
-// hits found in them.
+// A scan under way: the row that stands for what was read, how many bytes that were, how many questions they took,
+// and the hits found in them.
 pub(crate) struct Running {
     pub row: usize,
     pub end: usize,
@@ -47,8 +47,8 @@ pub(crate) fn fresh() -> Running
     }
 }
 
-// The hits at an end whose row stands for what was read: the row's own keyword, then those of its dictionary rows, longest
-// first.
+// The hits at an end whose row stands for what was read: the row's own keyword, then those of its dictionary rows,
+// longest first.
 fn list_hits(
     ws: &[u16],
     words: &[u16],
@@ -167,7 +167,7 @@ pub fn scan(set: &[u8], trace: &[u8], workspace: &mut [u16], hits: &mut [u32]) -
     match found {
         Counted::Refused(fault) => Scanned::Refused(fault),
         Counted::Number(count) => {
-            let end = ENTRY * count as usize;
+            let end = ITEM * count as usize;
             scan_words(&list[..end], trace, workspace, hits)
         }
     }

@@ -2,7 +2,7 @@
 use Prim.Native.Nat.{ℕ}
 use mathlib.Core.Path.{_≡_, sym, _∙_}
 use mathlib.Core.List.{List}
-use Rattle.rules.specs.Hits.{Hit}
+use Rattle.rules.specs.scans.Hits.{Hit}
 use Rattle.hits.specs.declared.Tally.{Tally}
 use Rattle.hits.specs.Tallies.{Tallied}
 

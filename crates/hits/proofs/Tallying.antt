@@ -4,14 +4,14 @@ use native.Mathlib.Omega.{arith}
 use mathlib.Core.Path.{_≡_, refl, sym, _∙_, ap}
 use mathlib.Core.List.{List, [], _∷_, _++_, List·Memᴰ}
 use lib.ListN.{length, set, length-append}
-use Rattle.rules.specs.Limits.{mostKeywords, mostEnergy}
-use Rattle.rules.specs.Sets.{Keyword}
-use Rattle.rules.specs.Sound.{nth, numbered}
-use Rattle.rules.specs.Hits.{Hit, energy, hitBuffer}
-use Rattle.rules.proofs.Hits.{energy-append}
-use Rattle.rules.proofs.KeyNumbers.{numbered-is}
-use Rattle.rules.proofs.Buffers.{hit-buffer-none, hit-buffer-more, hit-buffer-full, hit-buffer-length}
-use Rattle.words.specs.Entries.{keywordsIn}
+use Rattle.rules.specs.sets.Limits.{mostKeywords, mostEnergy}
+use Rattle.rules.specs.sets.Sets.{Keyword}
+use Rattle.rules.specs.scans.Hits.{Hit, energy, hitBuffer}
+use Rattle.rules.specs.Beside.{nth, numbered}
+use Rattle.rules.proofs.scans.Hits.{energy-append}
+use Rattle.rules.proofs.rows.KeyNumbers.{numbered-is}
+use Rattle.rules.proofs.scans.Buffers.{hit-buffer-none, hit-buffer-more, hit-buffer-full, hit-buffer-length}
+use Rattle.words.specs.Items.{keywordsIn}
 use Rattle.hits.specs.declared.Tally.{Tally}
 use Rattle.hits.specs.Tallies.{Tallied, Hitting, hitOf}
 

@@ -3,11 +3,11 @@ use Prim.Native.Nat.{ℕ, _*_, _/_, _≤_, min}
 use mathlib.Core.Path.{_≡_}
 use mathlib.Core.List.{List, List·Memᴰ}
 use lib.ListN.{length}
-use Rattle.rules.specs.Limits.{longestWord, longestTrace, mostEnergy}
-use Rattle.rules.specs.Sets.{Keyword}
-use Rattle.rules.specs.Hits.{Hit, energy, hitBuffer}
-use Rattle.rules.specs.Sound.{Sound, numbered}
-use Rattle.words.specs.Entries.{Words, keywordsIn}
+use Rattle.rules.specs.sets.Limits.{longestWord, longestTrace, mostEnergy}
+use Rattle.rules.specs.sets.Sets.{Keyword}
+use Rattle.rules.specs.scans.Hits.{Hit, energy, hitBuffer}
+use Rattle.rules.specs.Beside.{Sound, numbered}
+use Rattle.words.specs.Items.{Words, keywordsIn}
 use Rattle.hits.specs.declared.Tally.{Tally}
 
 -- the hit at an end of the keyword with a number
@@ -25,7 +25,8 @@ pub record Tallied (done : List Hit) (old : List ℕ) (tally : Tally) (hs : List
 abbrev pub Named : List Keyword → ℕ → Type 0
 Named ks n = (k : Keyword) × List·Memᴰ k ks × (k .number ≡ n)
 
--- before one hit more, at an end, of the keyword of the list l with the number n: the tally so far, and room in the counters
+-- before one hit more, at an end, of the keyword of the list l with the number n: the tally so far, and room in the
+-- counters
 pub record Hitting (l : List ℕ) (end n : ℕ) (done : List Hit) (old : List ℕ) (tally : Tally) (hs : List ℕ) : Type 0 where
   pub words : Words l
   pub sound : Sound (keywordsIn l)

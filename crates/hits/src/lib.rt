@@ -3,8 +3,8 @@ use words::energy_of;
 use words::place_of;
 ghost use mathlib.Core.List.{List, [], _∷_, _++_};
 ghost use Prim.Native.Nat.{ℕ};
-ghost use Rattle.rules.specs.Hits.{Hit};
-ghost use Rattle.words.specs.Entries.{keywordsIn};
+ghost use Rattle.rules.specs.scans.Hits.{Hit};
+ghost use Rattle.words.specs.Items.{keywordsIn};
 ghost use Rattle.hits.specs.Tallies.{Tallied, Hitting, hitOf};
 
 // What a scan has found: how many hits, their energy, and how many of them are listed.

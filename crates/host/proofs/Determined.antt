@@ -1,14 +1,14 @@
--- No input has two outcomes: a short answer buffer leaves everything as it was, and else the job's promise fixes its answer and its
--- buffers, and the answer fixes the result and the twenty bytes.
+-- No input has two outcomes: a short answer buffer leaves everything as it was, and else the job's promise fixes its
+-- answer and its buffers, and the answer fixes the result and the twenty bytes.
 use Prim.Native.Nat.{ℕ, _≤_, _<_}
 use mathlib.Core.Path.{_≡_, sym, _∙_, ap}
 use mathlib.Core.List.{List}
 use lib.ListN.{length}
 use lib.Dec.{ltb}
 use borrow.Author.Tests.{ltb-true, ltb-false}
-use Rattle.rules.specs.Limits.{answerSize}
-use Rattle.rules.specs.Answers.{Told}
-use Rattle.rules.proofs.Strings.{either}
+use Rattle.rules.specs.sets.Limits.{answerSize}
+use Rattle.rules.specs.answers.Answers.{Told}
+use Rattle.rules.proofs.strings.Strings.{either}
 use Rattle.host.specs.declared.answer.Answer.{Answer}
 use Rattle.host.specs.Calls.{toldOf, Telling, ForwardCall, BackwardCall, MakeCall, CheckCall}
 

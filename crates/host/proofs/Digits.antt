@@ -6,10 +6,10 @@ use mathlib.Core.Path.{_≡_, refl, sym}
 use mathlib.Core.List.{List, [], _++_}
 use lib.ListN.{length, set}
 use lib.Seq.{sets}
-use Rattle.rules.specs.Limits.{answerSize}
-use Rattle.rules.specs.Hits.{over}
-use Rattle.rules.specs.Answers.{Told, lowFirst, answerBytes}
-use Rattle.rules.proofs.Buffers.{over-none, over-sets}
+use Rattle.rules.specs.sets.Limits.{answerSize}
+use Rattle.rules.specs.scans.Hits.{over}
+use Rattle.rules.specs.answers.Answers.{Told, lowFirst, answerBytes}
+use Rattle.rules.proofs.scans.Buffers.{over-none, over-sets}
 
 -- n low bytes of x are still to be put, from a place on, until the buffer is as it shall be
 abbrev pub Putting : List ℕ → ℕ → ℕ → ℕ → List ℕ → Type 0

@@ -1,15 +1,16 @@
--- Nothing is lost in the twenty bytes: the numbers of each call's answer fit their places, so the bytes say which numbers they were.
+-- Nothing is lost in the twenty bytes: the numbers of each call's answer fit their places, so the bytes say which
+-- numbers they were.
 use Prim.Native.Nat.{ℕ, _≤_, _<_}
 use mathlib.Core.Path.{_≡_, sym, _∙_, ap}
 use mathlib.Core.List.{List}
 use lib.ListN.{length, getD, take, drop}
 use lib.Seq.{take-at}
-use Rattle.rules.specs.Limits.{answerSize, opcodes}
-use Rattle.rules.specs.Hits.{over}
-use Rattle.rules.specs.Answers.{Told, answerBytes}
-use Rattle.rules.specs.Promises.{Forward, Backward, Make, Check}
-use Rattle.rules.proofs.Answers.{Fits, length-answerBytes, answerBytes-injective}
-use Rattle.rules.proofs.Fits.{forward-fits, backward-fits, make-fits, check-fits}
+use Rattle.rules.specs.sets.Limits.{answerSize, opcodes}
+use Rattle.rules.specs.scans.Hits.{over}
+use Rattle.rules.specs.answers.Answers.{Told, answerBytes}
+use Rattle.rules.specs.answers.Promises.{Forward, Backward, Make, Check}
+use Rattle.rules.proofs.answers.Answers.{Fits, length-answerBytes, answerBytes-injective}
+use Rattle.rules.proofs.answers.Fits.{forward-fits, backward-fits, make-fits, check-fits}
 use Rattle.host.specs.Calls.{Telling, ForwardCall, BackwardCall, MakeCall, CheckCall}
 
 -- the first twenty bytes are the answer's, and no other answer's

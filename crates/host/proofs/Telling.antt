@@ -1,5 +1,5 @@
--- The host call's answer is the forward scan's: a workspace of 961 rows is enough for every set that passes its tests, so
--- test 9 never speaks.
+-- The host call's answer is the forward scan's: a workspace of 961 rows is enough for every set that passes its
+-- tests, so test 9 never speaks.
 use Prim.Native.Nat.{ℕ, _*_, _≤_, _<_}
 use native.Mathlib.Omega.{arith}
 use mathlib.Core.Path.{_≡_, refl, sym, _∙_, ap, subst}
@@ -9,14 +9,14 @@ use mathlib.Core.List.{List}
 use lib.ListN.{length}
 use lib.Dec.{ltb}
 use borrow.Author.Tests.{lt-ltb, le-ltb, ltb-false}
-use Rattle.rules.specs.Limits.{answerSize, rowCells, mostRows}
-use Rattle.rules.specs.Sets.{Keyword, keywords}
-use Rattle.rules.specs.Rows.{forward, rowsOf}
-use Rattle.rules.specs.Hits.{over}
-use Rattle.rules.specs.Refusals.{pass, refuse, orElse, fileVerdict, rowsVerdict, traceVerdict, workspaceVerdict, answerVerdict}
-use Rattle.rules.specs.Answers.{Told, answerBytes}
-use Rattle.rules.specs.Promises.{onPass, kept, answerOr, Forward, forwardTold, forwardVerdict, Backward, Make, Check, hostVerdict, hostTold, Host}
-use Rattle.rules.proofs.Verdicts.{verdict-cases, refuse-orElse, orElse-right, refuseIf-true, refuseIf-false, refuseIf-pass}
+use Rattle.rules.specs.sets.Limits.{answerSize, rowCells, mostRows}
+use Rattle.rules.specs.sets.Sets.{Keyword, keywords}
+use Rattle.rules.specs.rows.Rows.{forward, rowsOf}
+use Rattle.rules.specs.scans.Hits.{over}
+use Rattle.rules.specs.answers.Refusals.{pass, refuse, orElse, fileVerdict, rowsVerdict, traceVerdict, workspaceVerdict, answerVerdict}
+use Rattle.rules.specs.answers.Answers.{Told, answerBytes}
+use Rattle.rules.specs.answers.Promises.{onPass, kept, answerOr, Forward, forwardTold, forwardVerdict, Backward, Make, Check, hostVerdict, hostTold, Host}
+use Rattle.rules.proofs.answers.Verdicts.{verdict-cases, refuse-orElse, orElse-right, refuseIf-true, refuseIf-false, refuseIf-pass}
 use Rattle.host.specs.Calls.{Telling, ForwardCall, BackwardCall, MakeCall, CheckCall}
 
 -- a short buffer is refused and left as it was

@@ -1,12 +1,13 @@
--- The calls of the bench group: the job's own promise, with the answer in its twenty bytes; 17 where the buffer is shorter.
+-- The calls of the bench group: the job's own promise, with the answer in its twenty bytes; 17 where the buffer is
+-- shorter.
 use Prim.Native.Nat.{ℕ, _≤_, _<_}
 use mathlib.Core.Path.{_≡_}
 use mathlib.Core.List.{List}
 use lib.ListN.{length}
-use Rattle.rules.specs.Limits.{answerSize}
-use Rattle.rules.specs.Hits.{over}
-use Rattle.rules.specs.Answers.{Told, answerBytes}
-use Rattle.rules.specs.Promises.{Forward, Backward, Make, Check}
+use Rattle.rules.specs.sets.Limits.{answerSize}
+use Rattle.rules.specs.scans.Hits.{over}
+use Rattle.rules.specs.answers.Answers.{Told, answerBytes}
+use Rattle.rules.specs.answers.Promises.{Forward, Backward, Make, Check}
 use Rattle.host.specs.declared.answer.Answer.{Answer}
 
 -- an answer's value in document 01's numbers

@@ -6,9 +6,9 @@ ghost use mathlib.Core.Path.{_≡_};
 ghost use Prim.Native.Nat.{_+_, _<_, _≤_};
 ghost use lib.ListN.{length};
 ghost use lib.Seq.{sets};
-ghost use Rattle.rules.specs.Limits.{answerSize};
-ghost use Rattle.rules.specs.Hits.{over};
-ghost use Rattle.rules.specs.Answers.{numberOf, placeOf, told, toldRefusal, toldCounted, answerBytes, lowFirst};
+ghost use Rattle.rules.specs.sets.Limits.{answerSize};
+ghost use Rattle.rules.specs.scans.Hits.{over};
+ghost use Rattle.rules.specs.answers.Answers.{numberOf, placeOf, told, toldRefusal, toldCounted, answerBytes, lowFirst};
 ghost use Rattle.host.specs.Calls.{toldOf};
 
 // An answer: number 0 is no refusal.

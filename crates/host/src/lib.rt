@@ -10,10 +10,11 @@ use rules::ANSWER;
 use rules::WORKSPACE;
 use skips::check;
 use skips::make;
-ghost use Rattle.rules.specs.Promises.{Host};
+ghost use Rattle.rules.specs.answers.Promises.{Host};
 ghost use Rattle.host.specs.Calls.{ForwardCall, BackwardCall, MakeCall, CheckCall};
 
-// The cost of a trace: the forward scan's count, questions and energy, in an answer of twenty bytes. The result is the refusal's number, or 0.
+// The cost of a trace: the forward scan's count, questions and energy, in an answer of twenty bytes. The result is
+// the refusal's number, or 0.
 #[no_mangle]
 pub extern "C" fn bezowik_cost(set: &[u8], trace: &[u8], answer: &mut [u8]) -> u16
     ensures { λ r. ⌜ Host (now (set .entry)) (now (trace .entry)) (now (answer .entry)) r (now (answer .exit)) ⌝ }
@@ -37,7 +38,10 @@ pub extern "C" fn bezowik_forward(
     hits: &mut [u32],
     answer: &mut [u8],
 ) -> u16
-    ensures { λ r. ⌜ ForwardCall (now (set .entry)) (now (trace .entry)) (now (workspace .entry)) (now (hits .entry)) (now (answer .entry)) r (now (workspace .exit)) (now (hits .exit)) (now (answer .exit)) ⌝ }
+    ensures { λ r. ⌜
+        ForwardCall (now (set .entry)) (now (trace .entry)) (now (workspace .entry)) (now (hits .entry)) (now (answer .entry)) r
+        (now (workspace .exit)) (now (hits .exit)) (now (answer .exit))
+        ⌝ }
 {
     if answer.len() < ANSWER {
         return 17;
@@ -58,7 +62,11 @@ pub extern "C" fn bezowik_backward(
     hits: &mut [u32],
     answer: &mut [u8],
 ) -> u16
-    ensures { λ r. ⌜ BackwardCall (now (set .entry)) (now (trace .entry)) (now («row_file» .entry)) (now («byte_file» .entry)) (now (workspace .entry)) (now (hits .entry)) (now (answer .entry)) r (now (workspace .exit)) (now (hits .exit)) (now (answer .exit)) ⌝ }
+    ensures { λ r. ⌜
+        BackwardCall (now (set .entry)) (now (trace .entry)) (now («row_file» .entry)) (now («byte_file» .entry))
+        (now (workspace .entry)) (now (hits .entry)) (now (answer .entry)) r
+        (now (workspace .exit)) (now (hits .exit)) (now (answer .exit))
+        ⌝ }
 {
     if answer.len() < ANSWER {
         return 17;
@@ -68,7 +76,8 @@ pub extern "C" fn bezowik_backward(
     found.number
 }
 
-// Making skip tables: the largest safe numbers at the front of two buffers. The answer has the rows in the place of the count.
+// Making skip tables: the largest safe numbers at the front of two buffers. The answer has the rows in the place of the
+// count.
 #[no_mangle]
 pub extern "C" fn bezowik_make(
     set: &[u8],
@@ -77,7 +86,11 @@ pub extern "C" fn bezowik_make(
     byte_buffer: &mut [u8],
     answer: &mut [u8],
 ) -> u16
-    ensures { λ r. ⌜ MakeCall (now (set .entry)) (now (workspace .entry)) (now («row_buffer» .entry)) (now («byte_buffer» .entry)) (now (answer .entry)) r (now (workspace .exit)) (now («row_buffer» .exit)) (now («byte_buffer» .exit)) (now (answer .exit)) ⌝ }
+    ensures { λ r. ⌜
+        MakeCall (now (set .entry)) (now (workspace .entry)) (now («row_buffer» .entry)) (now («byte_buffer» .entry))
+        (now (answer .entry)) r
+        (now (workspace .exit)) (now («row_buffer» .exit)) (now («byte_buffer» .exit)) (now (answer .exit))
+        ⌝ }
 {
     if answer.len() < ANSWER {
         return 17;
@@ -96,7 +109,11 @@ pub extern "C" fn bezowik_check(
     workspace: &mut [u16],
     answer: &mut [u8],
 ) -> u16
-    ensures { λ r. ⌜ CheckCall (now (set .entry)) (now («row_file» .entry)) (now («byte_file» .entry)) (now (workspace .entry)) (now (answer .entry)) r (now (workspace .exit)) (now (answer .exit)) ⌝ }
+    ensures { λ r. ⌜
+        CheckCall (now (set .entry)) (now («row_file» .entry)) (now («byte_file» .entry)) (now (workspace .entry))
+        (now (answer .entry)) r
+        (now (workspace .exit)) (now (answer .exit))
+        ⌝ }
 {
     if answer.len() < ANSWER {
         return 17;

@@ -1,18 +1,18 @@
-// The limits of a set's tests, a line a case: the refusal, or what a set that passed has. The file `stdout` has the lines that
-// document 01 asks for.
+// The limits of a set's tests, a line a case: the refusal, or what a set that passed has. The file `stdout` has the
+// lines that document 01 asks for.
 use rules::Counted;
 use rules::Refusal;
 use rules::Way;
 use sets::read;
-use words::ENTRY;
+use words::ITEM;
 use words::LIST;
 use words::count_rows;
 use words::energy_of;
 use words::length_of;
 use words::shortest_of;
 use words::unit;
-ghost use Rattle.rules.specs.Sound.{Sound};
-ghost use Rattle.words.specs.Entries.{Words, keywordsIn};
+ghost use Rattle.words.specs.Items.{Words, keywordsIn};
+ghost use Rattle.rules.specs.Beside.{Sound};
 
 // Room for 66 records.
 const SPACE: usize = 1188;
@@ -94,8 +94,8 @@ fn energy(words: &[u16]) -> usize
     energy_of(words, 0) as usize
 }
 
-// What a set that passed has: its keywords, its rows read forward and backward, its shortest keyword, and the energy, the
-// first and the last byte of its first keyword.
+// What a set that passed has: its keywords, its rows read forward and backward, its shortest keyword, and the energy,
+// the first and the last byte of its first keyword.
 fn passed(words: &[u16], n: usize)
     requires { ⌜ Words (now words) × Sound (keywordsIn (now words)) ⌝ }
 {
@@ -134,7 +134,7 @@ fn answer(set: &[u8]) {
     match found {
         Counted::Number(n) => {
             let count = n as usize;
-            let end = ENTRY * count;
+            let end = ITEM * count;
             passed(&list[..end], count)
         }
         Counted::Refused(fault) => refused(fault),

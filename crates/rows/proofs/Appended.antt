@@ -1,5 +1,5 @@
--- A row more: of the rows before it only one number changes, the link that leads to it, and that is the one number that the
--- definitions change: the parent's child where it had none, else the last child's sibling.
+-- A row more: of the rows before it only one number changes, the link that leads to it, and that is the one number
+-- that the definitions change: the parent's child where it had none, else the last child's sibling.
 use Prim.Native.Nat.{ℕ, zero, suc, _+_, _*_, _≤_, _<_}
 use native.Mathlib.Omega.{arith}
 use mathlib.Core.Path.{_≡_, refl, sym, _∙_, ap}
@@ -9,13 +9,14 @@ use lib.ListN.{length, getD, take, drop, set, length-append, length-set, getD-re
 use lib.Seq.{sets, sets-eq, length-sets, length-take-le, getD-append-add, getD-append-seam, getD-set-same, getD-set-other, drop-set-lt}
 use lib.Dec.{eqb, ltb}
 use borrow.Author.Tests.{eqb-true, eqb-false, eq-eqb, ne-eqb, ltb-true, ltb-false}
-use Rattle.rules.specs.Limits.{rowCells}
-use Rattle.rules.specs.Strings.{same, any}
-use Rattle.rules.specs.Sets.{Keyword}
-use Rattle.rules.specs.Rows.{Way, placeFrom, childOf, siblingAfter, keyOf, Rowed}
-use Rattle.rules.proofs.Strings.{either}
-use Rattle.rules.proofs.Rows.{Stands, old-place, new-place, at-snoc, row-at, rowed-more}
-use Rattle.rules.proofs.Children.{places, placeFrom-head, children-none, new-child, new-sibling, lastByte, lastByte-snoc, last-only, child-linked, child-kept, sibling-linked, sibling-kept}
+use Rattle.rules.specs.sets.Limits.{rowCells}
+use Rattle.rules.specs.strings.Strings.{same, any}
+use Rattle.rules.specs.sets.Sets.{Keyword}
+use Rattle.rules.specs.rows.Rows.{Way, placeFrom, childOf, siblingAfter, keyOf}
+use Rattle.rules.specs.Beside.{Rowed}
+use Rattle.rules.proofs.strings.Strings.{either}
+use Rattle.rules.proofs.rows.Rows.{Stands, old-place, new-place, at-snoc, row-at, rowed-more}
+use Rattle.rules.proofs.rows.Children.{places, placeFrom-head, children-none, new-child, new-sibling, lastByte, lastByte-snoc, last-only, child-linked, child-kept, sibling-linked, sibling-kept}
 use Rattle.rows.specs.declared.tree.Asked.{Asked}
 use Rattle.rows.specs.Tree.{Column, Tree, Held, Answered, Beyond, byteOf, childrenOf, siblingsOf, lastFrom, appended}
 use Rattle.rows.proofs.Walk.{LastChild, childless, youngest, byteOf-pos, siblingsOf-pos, last-is, last-within, answered-none}
@@ -70,7 +71,8 @@ linkAt-within n parent last p q =
     (λ t. omega (arith, linkAt-child parent last (eqb-true last 0 t)))
     (λ f. omega (arith, linkAt-sibling parent last (eqb-false last 0 f)))
 
--- The numbers of a workspace with one row more: those of the rows before it but the link, the link, those of the new row.
+-- The numbers of a workspace with one row more: those of the rows before it but the link, the link, those of the new
+-- row.
 module _ (ws : List ℕ) (n parent last c : ℕ) where
   appended-sets : appended ws n parent last c ≡ sets (set ws (linkAt parent last) n) (rowCells * n) (newRow c)
   unfolding appended linkAt

@@ -1,24 +1,25 @@
--- The failure and the dictionary row of a child stand behind its first byte, so they are made of the levels above alone.
+-- The failure and the dictionary row of a child stand behind its first byte, so they are made of the levels above
+-- alone.
 use Prim.Native.Nat.{ℕ, _+_, _*_, _≤_, _<_}
 use native.Mathlib.Omega.{arith}
 use mathlib.Core.Path.{_≡_, sym, _∙_, ap, fun-ext}
 use mathlib.Core.Bool.{Bool, true, false, cond}
 use mathlib.Core.List.{List, [], _∷_, _++_}
 use lib.ListN.{length, getD, set, length-append}
-use Rattle.rules.specs.Limits.{rowCells}
-use Rattle.rules.specs.Strings.{same, any, longestBehind}
-use Rattle.rules.specs.Sets.{Keyword, isKeyword}
-use Rattle.rules.specs.Rows.{forward, starts, readBy, rowsOf, rowOf, keyOf, failureCell, dictionaryCell, Rowed}
-use Rattle.rules.specs.Sound.{Sound}
-use Rattle.rules.proofs.Strings.{either, passes}
-use Rattle.rules.proofs.Rows.{rowOf-is, rowOf-nil, rowOf-none}
-use Rattle.rules.proofs.PrefixRows.{filled-rows, row-short}
-use Rattle.rules.proofs.Children.{row-filled}
-use Rattle.rules.proofs.Keys.{no-keyword-no-key, no-key-no-keyword}
-use Rattle.rules.proofs.Dictionary.{dictionary-failure}
-use Rattle.rules.proofs.State.{longest-length, behind-one, behind-state, behind-length, behind-passes}
+use Rattle.rules.specs.sets.Limits.{rowCells}
+use Rattle.rules.specs.strings.Strings.{same, any, longestBehind}
+use Rattle.rules.specs.sets.Sets.{Keyword, isKeyword}
+use Rattle.rules.specs.rows.Rows.{forward, starts, readBy, rowsOf, rowOf, keyOf, failureCell, dictionaryCell, isRow}
+use Rattle.rules.specs.Beside.{Sound, Rowed}
+use Rattle.rules.proofs.strings.Strings.{either, passes}
+use Rattle.rules.proofs.rows.Rows.{rowOf-is, rowOf-nil, rowOf-none}
+use Rattle.rules.proofs.rows.PrefixRows.{filled-rows, row-short}
+use Rattle.rules.proofs.rows.Children.{row-filled}
+use Rattle.rules.proofs.rows.Keys.{no-keyword-no-key, no-key-no-keyword}
+use Rattle.rules.proofs.scans.Dictionary.{dictionary-failure}
+use Rattle.rules.proofs.scans.State.{longest-length, behind-one, behind-state, behind-length, behind-passes}
 use Rattle.rows.specs.declared.failures.Advanced.{Advanced}
-use Rattle.rows.specs.Falls.{isRow, Ready, Moved, Fillable, Filled}
+use Rattle.rows.specs.Falls.{Ready, Moved, Fillable, Filled}
 use Rattle.rows.proofs.Chain.{closed-row, nil-row, fall-within, fall-reads}
 
 -- what stands behind is no longer
@@ -34,7 +35,6 @@ rowOf-below {R} rowed s =
 
 -- to be a row is to begin a keyword
 rows-test : {ks : List Keyword} → Sound ks → isRow (rowsOf forward ks) ≡ starts forward ks
-unfolding isRow
 rows-test {ks} sound = fun-ext (filled-rows forward ks (sound .some))
 
 pub failure-is : {ks : List Keyword} → Sound ks → (r : List ℕ)
@@ -105,7 +105,6 @@ module _ {ks : List Keyword} {d parent c : ℕ} {ws : List ℕ} (f : Fillable ks
       moved .row ∙ rw up-reads (ap (rowOf (rowsOf forward ks)) (sym step))
 
   behind-reads : getD (rowsOf forward ks) (failRow ks parent c) [] ≡ behindOf ks parent c
-  unfolding isRow
   behind-reads =
       let passing = behind-passes (isRow (rowsOf forward ks)) (nil-row (f .filling .tree .rowed)) (stringOf ks parent c) in
       rowOf-is (rowsOf forward ks) (behindOf ks parent c) passing .1

@@ -1,19 +1,19 @@
--- The rows of keywords are built keyword by keyword: each keyword's rows stand behind those of the keywords before it, and what is
--- beyond the last of them is as it was.
+-- The rows of keywords are built keyword by keyword: each keyword's rows stand behind those of the keywords before
+-- it, and what is beyond the last of them is as it was.
 use Prim.Native.Nat.{ℕ, _+_, _*_, _≤_, _<_}
 use native.Mathlib.Omega.{arith}
 use mathlib.Core.Path.{_≡_, refl, sym, _∙_, ap}
 use mathlib.Core.List.{List, [], _∷_}
 use lib.ListN.{length, getD, take, drop, replicate, getD-replicate, List·getD-append}
 use lib.Seq.{sets, length-sets, take-all, take-take}
-use Rattle.rules.specs.Limits.{rowCells}
-use Rattle.rules.specs.Sets.{Keyword}
-use Rattle.rules.specs.Rows.{Way, meetWords, rowsOf, placeFrom, keyOf}
-use Rattle.rules.specs.Hits.{over}
-use Rattle.rules.specs.Sound.{Sound}
-use Rattle.rules.proofs.Rows.{rowed-nil}
-use Rattle.rules.proofs.Buffers.{over-none, over-sets, over-rest}
-use Rattle.rules.proofs.Children.{childOf-nil}
+use Rattle.rules.specs.sets.Limits.{rowCells}
+use Rattle.rules.specs.sets.Sets.{Keyword}
+use Rattle.rules.specs.rows.Rows.{Way, meetWords, rowsOf, placeFrom, keyOf}
+use Rattle.rules.specs.scans.Hits.{over}
+use Rattle.rules.specs.Beside.{Sound}
+use Rattle.rules.proofs.rows.Rows.{rowed-nil}
+use Rattle.rules.proofs.scans.Buffers.{over-none, over-sets, over-rest}
+use Rattle.rules.proofs.rows.Children.{childOf-nil}
 use Rattle.rows.specs.Tree.{Column, Beyond, byteOf, childrenOf, siblingsOf}
 use Rattle.rows.specs.Builds.{rowsTo, Inserting, Built}
 use Rattle.rows.proofs.Columns.{beyond-more, beyond-trans}

@@ -1,20 +1,22 @@
--- Along a chain of failures the longest suffix that goes on stays the same, a question is added and a byte or more goes.
+-- Along a chain of failures the longest suffix that goes on stays the same, a question is added and a byte or more
+-- goes.
 use Prim.Native.Nat.{ℕ, _+_, _*_, _≤_, _<_}
 use native.Mathlib.Omega.{arith}
 use mathlib.Core.Path.{_≡_, refl, sym, _∙_, ap}
 use mathlib.Core.Bool.{true, false}
 use mathlib.Core.List.{List, [], _∷_, _++_}
 use lib.ListN.{length, getD, length-append}
-use Rattle.rules.specs.Limits.{rowCells}
-use Rattle.rules.specs.Strings.{same, any, longest, longestBehind}
-use Rattle.rules.specs.Rows.{rowOf, Rowed}
-use Rattle.rules.proofs.Strings.{passes, fails}
-use Rattle.rules.proofs.Rows.{row-at, rowOf-is, rowOf-nil, rowOf-pos, rowOf-none, root-row}
-use Rattle.rules.proofs.Children.{row-filled}
-use Rattle.rules.proofs.State.{Closed, askedBy, longest-of, longest-falls, longest-one, asked-nil, asked-extends, asked-falls, behind-length, behind-passes}
+use Rattle.rules.specs.sets.Limits.{rowCells}
+use Rattle.rules.specs.strings.Strings.{same, any, longest, longestBehind}
+use Rattle.rules.specs.rows.Rows.{rowOf, isRow}
+use Rattle.rules.specs.Beside.{Rowed}
+use Rattle.rules.proofs.strings.Strings.{passes, fails}
+use Rattle.rules.proofs.rows.Rows.{row-at, rowOf-is, rowOf-nil, rowOf-pos, rowOf-none, root-row}
+use Rattle.rules.proofs.rows.Children.{row-filled}
+use Rattle.rules.proofs.scans.State.{Closed, askedBy, longest-of, longest-falls, longest-one, asked-nil, asked-extends, asked-falls, behind-length, behind-passes}
 use Rattle.rows.specs.declared.tree.Asked.{Asked}
 use Rattle.rows.specs.Tree.{Answered}
-use Rattle.rows.specs.Falls.{isRow, Ready, Moved}
+use Rattle.rows.specs.Falls.{Ready, Moved}
 
 -- what is asked at `at` after some questions is what was asked at `row`
 pub record Falling (R : List (List ℕ)) (row c at asked : ℕ) : Type 0 where
@@ -29,30 +31,24 @@ falling-none ready c = record { within = ready .within; shorter = omega arith; l
 module _ {R : List (List ℕ)} (rowed : Rowed R) where
   -- the tests of a row
   pub closed-row : Closed (isRow R)
-  unfolding isRow
   closed-row = rowed .closed
 
   pub is-row : (i : ℕ) → i < length R → isRow R (getD R i []) ≡ true
-  unfolding isRow
   is-row i q = row-at R i (getD R i []) q refl
 
   pub nil-row : isRow R [] ≡ true
-  unfolding isRow
   nil-row = root-row rowed
 
   behind-row : (i : ℕ) → any (same (longestBehind (isRow R) (getD R i []))) R ≡ true
-  unfolding isRow
   behind-row i = behind-passes (isRow R) nil-row (getD R i [])
 
   -- a child's row is never 0, so 0 says that there is none
   child-none : (s : List ℕ) (c : ℕ) → rowOf R (s ++ (c ∷ [])) ≡ 0 → isRow R (s ++ (c ∷ [])) ≡ false
-  unfolding isRow
   child-none s c z =
       let filled : 1 ≤ length (s ++ (c ∷ [])) = omega (arith, length-append s (c ∷ [])) in
       fails (any (same (s ++ (c ∷ []))) R) (λ t. omega (arith, rowOf-pos rowed (s ++ (c ∷ [])) filled t))
 
   child-some : (s : List ℕ) (c : ℕ) → (rowOf R (s ++ (c ∷ [])) ≡ 0 → ⊥) → isRow R (s ++ (c ∷ [])) ≡ true
-  unfolding isRow
   child-some s c n = passes (any (same (s ++ (c ∷ []))) R) (λ f. n (rowOf-none R (s ++ (c ∷ [])) f))
 
 -- the failure of a row: a shorter row

@@ -7,11 +7,11 @@ use lib.ListN.{length, getD, drop, set, length-set}
 use lib.Seq.{getD-set-same, getD-set-other, drop-set-lt, drop-drop}
 use lib.Dec.{eqb}
 use borrow.Author.Tests.{eqb-true, eqb-false}
-use Rattle.rules.specs.Limits.{rowCells}
-use Rattle.rules.specs.Sets.{Keyword}
-use Rattle.rules.specs.Rows.{Way, readBy, keyOf}
-use Rattle.rules.proofs.Strings.{either}
-use Rattle.rules.proofs.Keys.{keyOf-own, keyOf-kept}
+use Rattle.rules.specs.sets.Limits.{rowCells}
+use Rattle.rules.specs.sets.Sets.{Keyword}
+use Rattle.rules.specs.rows.Rows.{Way, readBy, keyOf}
+use Rattle.rules.proofs.strings.Strings.{either}
+use Rattle.rules.proofs.rows.Keys.{keyOf-own, keyOf-kept}
 use Rattle.rows.specs.Tree.{Column, Tree, Held, Beyond}
 
 -- a row's six numbers are within the workspace

@@ -1,4 +1,5 @@
--- A level is filled keyword by keyword: each row one byte longer is the beginning of some keyword, and what is filled stays.
+-- A level is filled keyword by keyword: each row one byte longer is the beginning of some keyword, and what is filled
+-- stays.
 use Prim.Native.Nat.{ℕ, _+_, _≤_, _<_}
 use native.Mathlib.Omega.{arith}
 use native.Mathlib.Numerals.{add-one}
@@ -10,15 +11,15 @@ use lib.Seq.{take-all, take-suc, take-append-seam, getD-set-same, getD-set-other
 use lib.Dec.{leb}
 use borrow.Author.Count.{below-more}
 use borrow.Author.Tests.{leb-true, leb-false}
-use Rattle.rules.specs.Limits.{mostKeywords}
-use Rattle.rules.specs.Strings.{same, any, longestBehind}
-use Rattle.rules.specs.Sets.{Keyword}
-use Rattle.rules.specs.Rows.{forward, readBy, rowsOf, rowOf, failureCell, dictionaryCell}
-use Rattle.rules.specs.Sound.{Sound, noKeyword, nth}
-use Rattle.rules.proofs.Strings.{either}
-use Rattle.rules.proofs.Orders.{getD-mem, mem-at}
-use Rattle.rules.proofs.Rows.{row-at, rowOf-is, rowOf-at, rowOf-nil}
-use Rattle.rules.proofs.PrefixRows.{prefix-row, row-prefix}
+use Rattle.rules.specs.sets.Limits.{mostKeywords}
+use Rattle.rules.specs.strings.Strings.{same, any, longestBehind}
+use Rattle.rules.specs.sets.Sets.{Keyword}
+use Rattle.rules.specs.rows.Rows.{forward, readBy, rowsOf, rowOf, failureCell, dictionaryCell}
+use Rattle.rules.specs.Beside.{Sound, noKeyword, nth}
+use Rattle.rules.proofs.strings.Strings.{either}
+use Rattle.rules.proofs.strings.Orders.{getD-mem, mem-at}
+use Rattle.rules.proofs.rows.Rows.{row-at, rowOf-is, rowOf-at, rowOf-nil}
+use Rattle.rules.proofs.rows.PrefixRows.{prefix-row, row-prefix}
 use Rattle.rows.specs.declared.levels.Standing.{Standing}
 use Rattle.rows.specs.Tree.{Held, Beyond}
 use Rattle.rows.specs.Falls.{Filling, Fillable, Filled}

@@ -1,15 +1,15 @@
--- The tests 7 to 9 in the order of the table: the first that shows a fault is the verdict, and where none does, rows, trace and
--- workspace are within the limits.
+-- The tests 7 to 9 in the order of the table: the first that shows a fault is the verdict, and where none does, rows,
+-- trace and workspace are within the limits.
 use Prim.Native.Nat.{ℕ, _*_, _≤_, _<_}
 use mathlib.Core.Path.{_≡_}
 use mathlib.Core.List.{List}
 use lib.ListN.{length}
 use borrow.Author.Tests.{lt-ltb, le-ltb, ltb-false}
-use Rattle.rules.specs.Limits.{mostRows, longestTrace, rowCells}
-use Rattle.rules.specs.Sets.{Keyword}
-use Rattle.rules.specs.Rows.{Way, rowsOf}
-use Rattle.rules.specs.Refusals.{pass, refuse, refuseIf, orElse, rowsVerdict, traceVerdict, workspaceVerdict, entryVerdict}
-use Rattle.rules.proofs.Verdicts.{orElse-pass, refuseIf-pass}
+use Rattle.rules.specs.sets.Limits.{mostRows, longestTrace, rowCells}
+use Rattle.rules.specs.sets.Sets.{Keyword}
+use Rattle.rules.specs.rows.Rows.{Way, rowsOf}
+use Rattle.rules.specs.answers.Refusals.{pass, refuse, refuseIf, orElse, rowsVerdict, traceVerdict, workspaceVerdict, entryVerdict}
+use Rattle.rules.proofs.answers.Verdicts.{orElse-pass, refuseIf-pass}
 
 -- what the tests let in: rows, a trace of n bytes and a workspace of m numbers
 pub record Entry (way : Way) (ks : List Keyword) (n m : ℕ) : Type 0 where

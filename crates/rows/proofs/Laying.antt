@@ -1,5 +1,5 @@
--- A workspace whose six columns are the definition's is the definition's list at its front: number 6 * i + k of that list is
--- number k of row i, and every place of it is such a number.
+-- A workspace whose six columns are the definition's is the definition's list at its front: number 6 * i + k of that
+-- list is number k of row i, and every place of it is such a number.
 use Prim.Native.Nat.{ℕ, zero, suc, _+_, _*_, _/_, _%_, _≤_, _<_}
 use native.Mathlib.Nat.{zero-add}
 use native.Mathlib.Omega.{arith}
@@ -7,16 +7,16 @@ use mathlib.Core.Path.{_≡_, refl, sym, _∙_, ap}
 use mathlib.Core.List.{List, [], _∷_}
 use lib.ListN.{length, getD, take, drop, length-append, length-take, List·getD-append}
 use lib.Seq.{getD-append-add, getD-take, ext-getD}
-use Rattle.rules.specs.Limits.{rowCells, longestWord}
-use Rattle.rules.specs.Strings.{longestBehind}
-use Rattle.rules.specs.Sets.{Keyword}
-use Rattle.rules.specs.Rows.{Way, forward, backward, rowsOf, keyOf, failureCell, dictionaryCell, cellsAt, cellsFrom, cells}
-use Rattle.rules.specs.Hits.{over}
-use Rattle.rules.specs.Sound.{Sound}
-use Rattle.rules.proofs.Rows.{rowed-rows, rowOf-nil, row-at}
-use Rattle.rules.proofs.Keys.{key-nil}
-use Rattle.rules.proofs.PrefixRows.{row-short}
-use Rattle.rules.proofs.Buffers.{over-by, over-length}
+use Rattle.rules.specs.sets.Limits.{rowCells, longestWord}
+use Rattle.rules.specs.strings.Strings.{longestBehind}
+use Rattle.rules.specs.sets.Sets.{Keyword}
+use Rattle.rules.specs.rows.Rows.{Way, forward, backward, rowsOf, keyOf, failureCell, dictionaryCell, cellsAt, cellsFrom, cells}
+use Rattle.rules.specs.scans.Hits.{over}
+use Rattle.rules.specs.Beside.{Sound}
+use Rattle.rules.proofs.rows.Rows.{rowed-rows, rowOf-nil, row-at}
+use Rattle.rules.proofs.rows.Keys.{key-nil}
+use Rattle.rules.proofs.rows.PrefixRows.{row-short}
+use Rattle.rules.proofs.scans.Buffers.{over-by, over-length}
 use Rattle.rows.specs.Tree.{Column, byteOf, childrenOf, siblingsOf, Held, Beyond}
 use Rattle.rows.specs.Falls.{Filling}
 use Rattle.rows.specs.Laid.{Laid}
@@ -110,8 +110,8 @@ over-columns way ks ws k h i q =
     List·getD-append (cells way ks) (drop (length (cells way ks)) ws) 0 (rowCells * i + k) (omega (arith, cells-length way ks))
     ∙ cells-at way ks i k q h
 
--- The definition's numbers by name. In row 0 they are as in any other row but for the byte and the sibling: the empty string
--- is no keyword, and the longest string behind it is itself.
+-- The definition's numbers by name. In row 0 they are as in any other row but for the byte and the sibling: the empty
+-- string is no keyword, and the longest string behind it is itself.
 failure-root : (way : Way) (ks : List Keyword) → failureCell way ks (rowsOf way ks) [] ≡ 0
 unfolding failureCell longestBehind
 failure-root forward ks = rowOf-nil (rowed-rows forward ks)
@@ -193,7 +193,8 @@ over-laid way ks ws sound room =
     column : (k : ℕ) → k < rowCells → Column k (cellOf way ks k) (length (rowsOf way ks)) (over (cells way ks) ws)
     column = over-columns way ks ws
 
--- backward rows are complete as they are built, and forward ones once every level is filled: no row is longer than a word
+-- backward rows are complete as they are built, and forward ones once every level is filled: no row is longer than a
+-- word
 pub held-laid : {ks : List Keyword} {ws : List ℕ} → Held backward ks (rowsOf backward ks) ws → Laid backward ks ws
 unfolding failureCell dictionaryCell
 held-laid held = record { tree = held .tree; failures = held .failures; keys = held .keys; dictionaries = held .dictionaries }

@@ -1,5 +1,5 @@
--- The rows of a keyword are met byte by byte: each further byte leads to a row that stands already, or to one more behind all
--- others; once the word is read its row is known, and no earlier keyword stands there.
+-- The rows of a keyword are met byte by byte: each further byte leads to a row that stands already, or to one more
+-- behind all others; once the word is read its row is known, and no earlier keyword stands there.
 use Prim.Native.Nat.{ℕ, suc, _+_, _*_, _≤_, _<_}
 use native.Mathlib.Omega.{arith}
 use native.Mathlib.Numerals.{add-one}
@@ -8,16 +8,16 @@ use mathlib.Core.Bool.{true, false}
 use mathlib.Core.List.{List, [], _∷_, _++_}
 use lib.ListN.{length, getD, take, drop, set, length-append, length-take, take-append-drop}
 use lib.Seq.{take-suc, take-all, getD-take}
-use Rattle.rules.specs.Limits.{rowCells, mostRows}
-use Rattle.rules.specs.Strings.{same, any}
-use Rattle.rules.specs.Sets.{Keyword, isKeyword}
-use Rattle.rules.specs.Rows.{Way, prefixes, meet, rowsOf, rowOf, keyOf, Rowed}
-use Rattle.rules.specs.Sound.{Sound, noKeyword, nth}
-use Rattle.rules.proofs.Strings.{fails, or-fails-left}
-use Rattle.rules.proofs.Orders.{mem-at, ordered-at}
-use Rattle.rules.proofs.Rows.{rowed-rows, rowed-meet, root-row, meet-snoc, meet-old, meet-new, meet-has, meet-reads, rowsOf-snoc, rows-below, rows-grow, rows-few, rowOf-is, rowOf-nil, rowOf-new}
-use Rattle.rules.proofs.Dictionary.{isKeyword-true}
-use Rattle.rules.proofs.Keys.{keyOf-new, keyOf-fresh}
+use Rattle.rules.specs.sets.Limits.{rowCells, mostRows}
+use Rattle.rules.specs.strings.Strings.{same, any}
+use Rattle.rules.specs.sets.Sets.{Keyword, isKeyword}
+use Rattle.rules.specs.rows.Rows.{Way, prefixes, meet, rowsOf, rowOf, keyOf}
+use Rattle.rules.specs.Beside.{Sound, noKeyword, nth, Rowed}
+use Rattle.rules.proofs.strings.Strings.{fails, or-fails-left}
+use Rattle.rules.proofs.strings.Orders.{mem-at, ordered-at}
+use Rattle.rules.proofs.rows.Rows.{rowed-rows, rowed-meet, root-row, meet-snoc, meet-old, meet-new, meet-has, meet-reads, rowsOf-snoc, rows-below, rows-grow, rows-few, rowOf-is, rowOf-nil, rowOf-new}
+use Rattle.rules.proofs.scans.Dictionary.{isKeyword-true}
+use Rattle.rules.proofs.rows.Keys.{keyOf-new, keyOf-fresh}
 use Rattle.words.specs.Read.{readAt}
 use Rattle.words.proofs.Counted.{front-more}
 use Rattle.rows.specs.declared.tree.Asked.{Asked}

@@ -1,18 +1,19 @@
--- The walk along the children of a row: what is left of the question stands behind the row compared last, so each of the three
--- answers is what the walk has so far and what the rows behind still give.
+-- The walk along the children of a row: what is left of the question stands behind the row compared last, so each of
+-- the three answers is what the walk has so far and what the rows behind still give.
 use Prim.Native.Nat.{ℕ, zero, suc, _+_, _*_, _≤_, _<_}
 use native.Mathlib.Omega.{arith}
 use mathlib.Core.Path.{_≡_, refl, sym, _∙_, ap}
 use mathlib.Core.Bool.{Bool, true, false}
 use mathlib.Core.List.{List, [], _∷_, _++_, List·Memᴰ, List·Memᴰ·head, Memᴰ·append-right}
 use lib.ListN.{length, getD, drop, length-append}
-use Rattle.rules.specs.Limits.{rowCells}
-use Rattle.rules.specs.Strings.{same, any, keep, countTo}
-use Rattle.rules.specs.Rows.{placeFrom, childOf, siblingAfter, Rowed}
-use Rattle.rules.proofs.Strings.{either, passes, fails, same-true, eq-same}
-use Rattle.rules.proofs.Rows.{by-snoc, rowOf-is, rowOf-none, rowOf-pos}
-use Rattle.rules.proofs.Children.{places, Next, Asking, places-end, places-mem, places-at, children-first, child-last, lastByte, lastByte-snoc, asking-start, asking-none, asking-at, asking-found, asking-on}
-use Rattle.rules.proofs.Listed.{keep-first, keep-next, keep-end}
+use Rattle.rules.specs.sets.Limits.{rowCells}
+use Rattle.rules.specs.strings.Strings.{same, any, keep, countTo}
+use Rattle.rules.specs.rows.Rows.{placeFrom, childOf, siblingAfter}
+use Rattle.rules.specs.Beside.{Rowed}
+use Rattle.rules.proofs.strings.Strings.{either, passes, fails, same-true, eq-same}
+use Rattle.rules.proofs.rows.Rows.{by-snoc, rowOf-is, rowOf-none, rowOf-pos}
+use Rattle.rules.proofs.rows.Children.{places, Next, Asking, places-end, places-mem, places-at, children-first, child-last, lastByte, lastByte-snoc, asking-start, asking-none, asking-at, asking-found, asking-on}
+use Rattle.rules.proofs.rows.Listed.{keep-first, keep-next, keep-end}
 use Rattle.rows.specs.declared.tree.Asked.{Asked}
 use Rattle.rows.specs.Tree.{Tree, Answered, byteOf, siblingsOf, lastFrom}
 use Rattle.rows.proofs.Columns.{tree-room}
@@ -173,8 +174,8 @@ last-within {R} rowed s = go (last-is rowed s)
     go (childless e none-left) = omega (arith, rowed .some)
     go {last} (youngest pos m end) = places-at (childOf s) R last m .0
 
--- What an answer tells. A child that is found is a row, and where none is found the string is none; then the last row compared
--- is the last child.
+-- What an answer tells. A child that is found is a row, and where none is found the string is none; then the last row
+-- compared is the last child.
 module _ {R : List (List ℕ)} (rowed : Rowed R) {s : List ℕ} {c : ℕ} {r : Asked} (answered : Answered R s c r) where
   pub answered-none : r .child ≡ 0 → (any (same (s ++ (c ∷ []))) R ≡ false) × (r .last ≡ lastFrom 0 0 (childOf s) R)
   answered-none none-found =

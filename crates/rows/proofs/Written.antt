@@ -7,10 +7,10 @@ use lib.ListN.{length, getD, set, drop, length-set}
 use lib.Seq.{getD-set-same, getD-set-other, drop-set-lt}
 use lib.Dec.{eqb}
 use borrow.Author.Tests.{eqb-true, eqb-false}
-use Rattle.rules.specs.Limits.{rowCells}
-use Rattle.rules.specs.Sets.{Keyword}
-use Rattle.rules.specs.Rows.{forward, rowsOf, failureCell, dictionaryCell}
-use Rattle.rules.proofs.Strings.{either}
+use Rattle.rules.specs.sets.Limits.{rowCells}
+use Rattle.rules.specs.sets.Sets.{Keyword}
+use Rattle.rules.specs.rows.Rows.{forward, rowsOf, failureCell, dictionaryCell}
+use Rattle.rules.proofs.strings.Strings.{either}
 use Rattle.rows.specs.Tree.{Beyond}
 use Rattle.rows.specs.Falls.{Filling, Filled}
 use Rattle.rows.proofs.Behind.{rowOf-below, stringOf}

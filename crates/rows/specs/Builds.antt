@@ -3,10 +3,10 @@ use Prim.Native.Nat.{ℕ, _+_, _*_, _≤_, _<_}
 use mathlib.Core.Path.{_≡_}
 use mathlib.Core.List.{List}
 use lib.ListN.{length, take}
-use Rattle.rules.specs.Limits.{rowCells}
-use Rattle.rules.specs.Sets.{Keyword}
-use Rattle.rules.specs.Rows.{Way, rowsOf}
-use Rattle.rules.specs.Sound.{Sound}
+use Rattle.rules.specs.sets.Limits.{rowCells}
+use Rattle.rules.specs.sets.Sets.{Keyword}
+use Rattle.rules.specs.rows.Rows.{Way, rowsOf}
+use Rattle.rules.specs.Beside.{Sound}
 use Rattle.rows.specs.Tree.{Held, Beyond}
 
 -- the rows of the first n of the keywords ks

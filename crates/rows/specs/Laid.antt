@@ -2,8 +2,8 @@
 use Prim.Native.Nat.{ℕ}
 use mathlib.Core.List.{List, []}
 use lib.ListN.{length, getD}
-use Rattle.rules.specs.Sets.{Keyword}
-use Rattle.rules.specs.Rows.{Way, rowsOf, keyOf, failureCell, dictionaryCell}
+use Rattle.rules.specs.sets.Sets.{Keyword}
+use Rattle.rules.specs.rows.Rows.{Way, rowsOf, keyOf, failureCell, dictionaryCell}
 use Rattle.rows.specs.Tree.{Column, Tree}
 
 -- the workspace holds the rows of ks with all six numbers

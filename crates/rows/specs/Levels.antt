@@ -3,10 +3,10 @@ use Prim.Native.Nat.{ℕ, _<_}
 use mathlib.Core.Path.{_≡_}
 use mathlib.Core.List.{List}
 use lib.ListN.{length, getD, take}
-use Rattle.rules.specs.Limits.{longestWord}
-use Rattle.rules.specs.Sets.{Keyword}
-use Rattle.rules.specs.Rows.{forward, rowsOf, rowOf}
-use Rattle.rules.specs.Sound.{Sound, nth}
+use Rattle.rules.specs.sets.Limits.{longestWord}
+use Rattle.rules.specs.sets.Sets.{Keyword}
+use Rattle.rules.specs.rows.Rows.{forward, rowsOf, rowOf}
+use Rattle.rules.specs.Beside.{Sound, nth}
 use Rattle.rows.specs.Tree.{Beyond}
 use Rattle.rows.specs.Falls.{Filling}
 use Rattle.rows.specs.declared.levels.Standing.{Standing}

@@ -6,10 +6,11 @@ use mathlib.Core.List.{List, [], _∷_, _++_}
 use lib.ListN.{length, getD, drop, set}
 use lib.Seq.{sets}
 use lib.Dec.{eqb}
-use Rattle.rules.specs.Limits.{rowCells}
-use Rattle.rules.specs.Strings.{same, any, keep, countTo}
-use Rattle.rules.specs.Sets.{Keyword}
-use Rattle.rules.specs.Rows.{Way, rowOf, placeFrom, childOf, siblingAfter, keyOf, Rowed}
+use Rattle.rules.specs.sets.Limits.{rowCells}
+use Rattle.rules.specs.strings.Strings.{same, keep, countTo}
+use Rattle.rules.specs.sets.Sets.{Keyword}
+use Rattle.rules.specs.rows.Rows.{Way, rowOf, placeFrom, childOf, siblingAfter, keyOf, isRow}
+use Rattle.rules.specs.Beside.{Rowed}
 use Rattle.rows.specs.declared.tree.Asked.{Asked}
 
 -- number j of each of the first n rows is what f says
@@ -46,7 +47,7 @@ lastFrom d n p (r ∷ rows) = lastFrom (cond (p r) n d) (suc n) p rows
 pub record Answered (R : List (List ℕ)) (s : List ℕ) (c : ℕ) (r : Asked) : Type 0 where
   pub child : r .child ≡ rowOf R (s ++ (c ∷ []))
   pub compared : r .compared ≡ countTo (same (s ++ (c ∷ []))) (keep (childOf s) R)
-  pub last : r .last ≡ cond (any (same (s ++ (c ∷ []))) R) (r .child) (lastFrom 0 0 (childOf s) R)
+  pub last : r .last ≡ cond (isRow R (s ++ (c ∷ []))) (r .child) (lastFrom 0 0 (childOf s) R)
 
 -- a workspace with one row more: six numbers behind the others, and the one link that leads there
 unfoldable pub appended : List ℕ → ℕ → ℕ → ℕ → ℕ → List ℕ

@@ -9,10 +9,10 @@ use words::number_of;
 use words::unit;
 ghost use Prim.Native.Nat.{_+_, _*_, _≤_};
 ghost use lib.ListN.{length, take};
-ghost use Rattle.rules.specs.Limits.{rowCells};
-ghost use Rattle.rules.specs.Rows.{rowsOf};
-ghost use Rattle.rules.specs.Sound.{Sound};
-ghost use Rattle.words.specs.Entries.{Words, keywordsIn};
+ghost use Rattle.rules.specs.sets.Limits.{rowCells};
+ghost use Rattle.rules.specs.rows.Rows.{rowsOf};
+ghost use Rattle.rules.specs.Beside.{Sound};
+ghost use Rattle.words.specs.Items.{Words, keywordsIn};
 ghost use Rattle.words.specs.Read.{wayOf};
 ghost use Rattle.rows.specs.Builds.{Inserting, Built};
 

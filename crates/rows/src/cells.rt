@@ -3,7 +3,7 @@ use rules::CELLS;
 ghost use mathlib.Core.Path.{_≡_};
 ghost use Prim.Native.Nat.{_+_, _*_, _<_, _≤_};
 ghost use lib.ListN.{length, getD};
-ghost use Rattle.rules.specs.Limits.{rowCells};
+ghost use Rattle.rules.specs.sets.Limits.{rowCells};
 
 // A number of a row as a place.
 fn wide(x: u16) -> usize

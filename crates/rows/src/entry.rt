@@ -8,16 +8,16 @@ use rules::Way;
 use words::count_rows;
 ghost use mathlib.Core.Path.{_≡_};
 ghost use lib.ListN.{length};
-ghost use Rattle.rules.specs.Rows.{rowsOf};
-ghost use Rattle.rules.specs.Refusals.{entryVerdict};
-ghost use Rattle.rules.specs.Answers.{toldCount, toldCounted};
-ghost use Rattle.rules.specs.Promises.{answerOr};
-ghost use Rattle.rules.specs.Sound.{Sound};
-ghost use Rattle.words.specs.Entries.{Words, keywordsIn};
+ghost use Rattle.rules.specs.rows.Rows.{rowsOf};
+ghost use Rattle.rules.specs.answers.Refusals.{entryVerdict};
+ghost use Rattle.rules.specs.answers.Answers.{toldCount, toldCounted};
+ghost use Rattle.rules.specs.answers.Promises.{answerOr};
+ghost use Rattle.rules.specs.Beside.{Sound};
+ghost use Rattle.words.specs.Items.{Words, keywordsIn};
 ghost use Rattle.words.specs.Read.{wayOf};
 
-// The tests 7 to 9 of keywords that are read one way, a trace of so many bytes and a workspace of so many numbers: how many rows
-// there are, or the refusal. A job that has no trace passes none, and test 8 passes.
+// The tests 7 to 9 of keywords that are read one way, a trace of so many bytes and a workspace of so many numbers:
+// how many rows there are, or the refusal. A job that has no trace passes none, and test 8 passes.
 pub fn enter(words: &[u16], way: Way, trace: usize, room: usize) -> Counted
     requires { ⌜ Words (now words) × Sound (keywordsIn (now words)) ⌝ }
     ensures { λ r. ⌜

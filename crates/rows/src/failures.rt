@@ -7,7 +7,7 @@ use rules::CELLS;
 ghost use mathlib.Core.List.{List, []};
 ghost use Prim.Native.Nat.{ℕ, _+_, _*_};
 ghost use lib.ListN.{getD};
-ghost use Rattle.rules.specs.Sets.{Keyword};
+ghost use Rattle.rules.specs.sets.Sets.{Keyword};
 ghost use Rattle.rows.specs.Falls.{Ready, Moved, Fillable, Filled};
 
 // Where a step leads, and how many questions it took.
@@ -40,7 +40,11 @@ pub fn advance(ws: &[u16], row: usize, c: u16) -> Advanced
 // The failure and dictionary rows of the child that the byte c leads to, from those of the levels above; the child.
 pub(crate) fn fill_row(ws: &mut [u16], parent: usize, c: u16) -> usize
     requires { ⌜ ((ks : List Keyword) × (d : ℕ) × Fillable ks d parent c (now ws)) ⌝ }
-    ensures { λ r. ⌜ ((ks : List Keyword) (d : ℕ) → Fillable ks d parent c (now (ws .entry)) → Filled ks parent c r (now (ws .entry)) (now (ws .exit))) ⌝ }
+    ensures { λ r. ⌜
+        ((ks : List Keyword) (d : ℕ)
+        → Fillable ks d parent c (now (ws .entry))
+        → Filled ks parent c r (now (ws .entry)) (now (ws .exit)))
+        ⌝ }
 {
     let found = ask(ws, parent, c);
     let row = found.child;

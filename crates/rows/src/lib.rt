@@ -10,14 +10,15 @@ use rules::Way;
 ghost use mathlib.Core.Path.{_≡_};
 ghost use Prim.Native.Nat.{_*_, _≤_};
 ghost use lib.ListN.{length};
-ghost use Rattle.rules.specs.Limits.{rowCells};
-ghost use Rattle.rules.specs.Rows.{rowsOf, cells};
-ghost use Rattle.rules.specs.Hits.{over};
-ghost use Rattle.rules.specs.Sound.{Sound};
-ghost use Rattle.words.specs.Entries.{Words, keywordsIn};
+ghost use Rattle.rules.specs.sets.Limits.{rowCells};
+ghost use Rattle.rules.specs.rows.Rows.{rowsOf, cells};
+ghost use Rattle.rules.specs.scans.Hits.{over};
+ghost use Rattle.rules.specs.Beside.{Sound};
+ghost use Rattle.words.specs.Items.{Words, keywordsIn};
 ghost use Rattle.words.specs.Read.{wayOf};
 
-// The rows of keywords that passed their tests, read one way, at the front of a workspace with room for them; how many there are.
+// The rows of keywords that passed their tests, read one way, at the front of a workspace with room for them; how
+// many there are.
 pub fn lay(ws: &mut [u16], words: &[u16], way: Way) -> usize
     requires { ⌜
         Words (now words)

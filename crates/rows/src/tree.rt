@@ -7,7 +7,7 @@ ghost use mathlib.Core.Path.{_≡_};
 ghost use mathlib.Core.List.{List, []};
 ghost use Prim.Native.Nat.{ℕ, _+_, _*_, _<_, _≤_};
 ghost use lib.ListN.{length, getD};
-ghost use Rattle.rules.specs.Limits.{rowCells};
+ghost use Rattle.rules.specs.sets.Limits.{rowCells};
 ghost use Rattle.rows.specs.Tree.{Tree, Answered, appended};
 
 // What a question found: the child, 0 for none; the last row that was compared, 0 for none; how many were compared.

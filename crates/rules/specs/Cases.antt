@@ -4,16 +4,16 @@ use mathlib.Core.Bool.{Bool, true, false, _&&_}
 use mathlib.Core.List.{List, [], _∷_, _++_, map, flatMap}
 use lib.ListN.{length, take, drop, set, replicate}
 use lib.Dec.{eqb}
-use Rattle.rules.specs.Limits.{rowCells, rowRecord, byteFileSize}
-use Rattle.rules.specs.Strings.{same}
-use Rattle.rules.specs.Sets.{keywords}
-use Rattle.rules.specs.Rows.{Way, forward, backward, rowsOf, cells}
-use Rattle.rules.specs.Hits.{pairs, hits, over, hitBuffer}
-use Rattle.rules.specs.Skips.{inner, edge, far, suffixRows, named, rowFile, byteFile}
-use Rattle.rules.specs.Runs.{runHits}
-use Rattle.rules.specs.Refusals.{orElse, tableVerdict}
-use Rattle.rules.specs.Answers.{Told, toldRefusal, lowFirst}
-use Rattle.rules.specs.Promises.{answerOr, kept, forwardTold, forwardVerdict, backwardTold, backwardEntry, rowsTold, tableEntry}
+use Rattle.rules.specs.sets.Limits.{rowCells, rowRecord, byteFileSize}
+use Rattle.rules.specs.strings.Strings.{same}
+use Rattle.rules.specs.sets.Sets.{keywords}
+use Rattle.rules.specs.rows.Rows.{Way, forward, backward, rowsOf, cells}
+use Rattle.rules.specs.scans.Hits.{pairs, hits, over, hitBuffer}
+use Rattle.rules.specs.skips.Skips.{inner, edge, far, suffixRows, named, rowFile, byteFile}
+use Rattle.rules.specs.skips.Runs.{runHits}
+use Rattle.rules.specs.answers.Refusals.{orElse, tableVerdict}
+use Rattle.rules.specs.answers.Answers.{Told, toldRefusal, lowFirst}
+use Rattle.rules.specs.answers.Promises.{answerOr, kept, forwardTold, forwardVerdict, backwardTold, backwardEntry, rowsTold, tableEntry}
 
 -- A claim. Sets, traces, files and hit pairs are the numbers as they lie in files and buffers.
 pub data Case : Type 0 where

@@ -1,15 +1,10 @@
--- Document 01 as definitions: each module is a section of the paper, and this is what a reader must believe.
-pub mod Limits
-pub mod Strings
-pub mod Sets
-pub mod Rows
-pub mod Hits
-pub mod Questions
-pub mod Skips
-pub mod Runs
-pub mod Audit
-pub mod Sound
-pub mod Refusals
-pub mod Answers
-pub mod Promises
+-- Document 01 as definitions: each folder is a part of the paper, and this is what a reader must believe.
+-- What the paper does not say stands apart, in `Beside`.
+pub mod strings
+pub mod sets
+pub mod rows
+pub mod scans
+pub mod skips
+pub mod answers
 pub mod Cases
+pub mod Beside

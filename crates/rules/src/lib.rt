@@ -14,7 +14,8 @@ pub const CELLS: usize = 6;
 
 pub const WORKSPACE: usize = 5766;
 
-// The bytes of a row's record in a row file; the numbers of a byte's record in a byte file, the bytes that it speaks of, and its size.
+// The bytes of a row's record in a row file; the numbers of a byte's record in a byte file, the bytes that it speaks
+// of, and its size.
 pub const ROW: usize = 18;
 
 pub const DEPTHS: usize = 16;
@@ -32,7 +33,7 @@ pub enum Way {
     Backward,
 }
 
-// Why a call is refused. `numberAndPlace` in specs/Answers.antt gives document 01's number and place of each.
+// Why a call is refused. `numberAndPlace` in specs/answers/Answers.antt gives document 01's number and place of each.
 pub enum Refusal {
     SetEmpty,
     SetSize,
@@ -66,8 +67,8 @@ pub enum Scanned {
     Refused(Refusal),
 }
 
-// An answer that is one number. The tests of a set answer how many keywords it has; the tests behind them, making and the check
-// answer how many rows.
+// An answer that is one number. The tests of a set answer how many keywords it has; the tests behind them, making and
+// the check answer how many rows.
 pub enum Counted {
     Number(u16),
     Refused(Refusal),

@@ -11,7 +11,8 @@ const MOST: usize = 16384;
 
 const ROOM: usize = 16385;
 
-// The bytes of a file into a buffer, and how many they are; as many as the buffer has where the file is missing or longer.
+// The bytes of a file into a buffer, and how many they are; as many as the buffer has where the file is missing or
+// longer.
 fn load(path: &[u8], buffer: &mut [u8]) -> usize
     ensures { λ r. ⌜ r ≤ length (now (buffer .exit)) ⌝ }
 {

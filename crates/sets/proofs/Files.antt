@@ -1,4 +1,5 @@
--- A file's verdict is the first of its tests that shows a fault: its size decides, or the first record that does not pass.
+-- A file's verdict is the first of its tests that shows a fault: its size decides, or the first record that does not
+-- pass.
 use Prim.Native.Nat.{ℕ, _+_, _*_, _/_, _%_, _≤_, _<_}
 use native.Mathlib.Omega.{arith}
 use native.Mathlib.Numerals.{add-one}
@@ -9,15 +10,16 @@ use borrow.Author.Tests.{eq-eqb, ne-eqb, lt-ltb, le-ltb}
 use Rattle.rules.specs.declared.Refusal.{Refusal}
 use Rattle.rules.specs.declared.Refusal.the-variants.{SetEmpty, SetSize, TooManyKeywords}
 use Rattle.rules.specs.declared.Counted.{Counted}
-use Rattle.rules.specs.Limits.{recordSize, mostKeywords, opcodes}
-use Rattle.rules.specs.Sets.{keywords, keywordsFrom, recordAt}
-use Rattle.rules.specs.Refusals.{pass, refuse, refuseIf, orElse, recordVerdict, recordVerdicts, fileVerdict}
-use Rattle.rules.specs.Answers.{numberOf, placeOf, toldCount}
-use Rattle.rules.proofs.Verdicts.{refuse-no-pass}
-use Rattle.rules.proofs.Sets.{records-next, records-refused, length-keywords}
-use Rattle.rules.proofs.Bytes.{bytes-sound}
-use Rattle.rules.proofs.Counts.{answer-refused, answer-passed}
-use Rattle.words.specs.Entries.{entrySize, Begins}
+use Rattle.rules.specs.sets.Limits.{recordSize, mostKeywords, opcodes}
+use Rattle.rules.specs.sets.Sets.{keywords, keywordsFrom}
+use Rattle.rules.specs.answers.Refusals.{pass, refuse, refuseIf, orElse, recordVerdict, recordVerdicts, fileVerdict}
+use Rattle.rules.specs.answers.Answers.{numberOf, placeOf, toldCount}
+use Rattle.rules.specs.Beside.{recordAt}
+use Rattle.rules.proofs.answers.Verdicts.{refuse-no-pass}
+use Rattle.rules.proofs.sets.Sets.{records-next, records-refused, length-keywords}
+use Rattle.rules.proofs.sets.Bytes.{bytes-sound}
+use Rattle.rules.proofs.answers.Counts.{answer-refused, answer-passed}
+use Rattle.words.specs.Items.{itemSize, Begins}
 use Rattle.words.proofs.Storing.{begins-none}
 use Rattle.sets.specs.Reading.{RecordRead, Read}
 
@@ -47,11 +49,11 @@ record-kept {i = i} e begins = record { told = answer-passed (toldCount (i + 1))
 
 -- the records that are read, from the first on
 pub record Records (s : List ℕ) (i : ℕ) (l : List ℕ) : Type 0 where
-  pub room : entrySize * mostKeywords ≤ length l
+  pub room : itemSize * mostKeywords ≤ length l
   pub passed : recordVerdicts i 0 [] s ≡ pass
   pub begins : Begins l (keywordsFrom 0 i s)
 
-pub records-none : (s : List ℕ) {l : List ℕ} → entrySize * mostKeywords ≤ length l → Records s 0 l
+pub records-none : (s : List ℕ) {l : List ℕ} → itemSize * mostKeywords ≤ length l → Records s 0 l
 unfolding recordVerdicts keywordsFrom
 records-none s {l} room = record { room = room; passed = refl; begins = begins-none l }
 

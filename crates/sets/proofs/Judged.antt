@@ -1,4 +1,5 @@
--- A record's verdict is the first of its tests that shows a fault, so each way out of the code is one line of the table.
+-- A record's verdict is the first of its tests that shows a fault, so each way out of the code is one line of the
+-- table.
 use Prim.Native.Nat.{ℕ, _+_, _*_, _≤_, _<_}
 use mathlib.Core.Path.{_≡_, sym, _∙_}
 use mathlib.Core.Bool.{true, false, _||_}
@@ -6,10 +7,11 @@ use mathlib.Core.List.{List}
 use lib.ListN.{length, getD}
 use lib.Dec.{eqb, ltb}
 use borrow.Author.Tests.{eq-eqb, ne-eqb, lt-ltb, le-ltb}
-use Rattle.rules.specs.Limits.{recordSize, longestWord}
-use Rattle.rules.specs.Sets.{Keyword, keywordAt, recordAt, isKeyword}
-use Rattle.rules.specs.Refusals.{pass, refuse, refuseIf, orElse, recordVerdict}
-use Rattle.rules.proofs.Strings.{or-right}
+use Rattle.rules.specs.sets.Limits.{recordSize, longestWord}
+use Rattle.rules.specs.sets.Sets.{Keyword, isKeyword}
+use Rattle.rules.specs.answers.Refusals.{pass, refuse, refuseIf, orElse, recordVerdict}
+use Rattle.rules.specs.Beside.{keywordAt, recordAt}
+use Rattle.rules.proofs.strings.Strings.{or-right}
 use Rattle.sets.specs.Reading.{paddingFault}
 use Rattle.sets.proofs.Records.{length-at}
 

@@ -2,7 +2,7 @@
 pub mod Records
 pub mod Padding
 pub mod Judged
-pub mod Filled
+pub mod Gathered
 pub mod Keeping
 pub mod Files
 pub mod Opened

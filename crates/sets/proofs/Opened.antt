@@ -1,17 +1,18 @@
--- What a set's reader answered says what its list holds: the set's keywords, which passed, or nothing where it was refused.
+-- What a set's reader answered says what its list holds: the set's keywords, which passed, or nothing where it was
+-- refused.
 use Prim.Native.Nat.{ℕ, _*_, _≤_}
 use mathlib.Core.Path.{_≡_, refl}
 use mathlib.Core.List.{List}
 use lib.ListN.{length, take}
 use Rattle.rules.specs.declared.Refusal.{Refusal}
 use Rattle.rules.specs.declared.Counted.{Counted}
-use Rattle.rules.specs.Sets.{keywords}
-use Rattle.rules.specs.Refusals.{pass, refuse, fileVerdict}
-use Rattle.rules.specs.Answers.{numberOf, placeOf, toldCount}
-use Rattle.rules.specs.Sound.{Sound}
-use Rattle.rules.proofs.Refused.{numbered-file}
-use Rattle.rules.proofs.Counts.{counted-number, counted-refused}
-use Rattle.words.specs.Entries.{entrySize, keywordsIn, Words}
+use Rattle.rules.specs.sets.Sets.{keywords}
+use Rattle.rules.specs.answers.Refusals.{pass, refuse, fileVerdict}
+use Rattle.rules.specs.answers.Answers.{numberOf, placeOf, toldCount}
+use Rattle.rules.specs.Beside.{Sound}
+use Rattle.rules.proofs.answers.Refused.{numbered-file}
+use Rattle.rules.proofs.answers.Counts.{counted-number, counted-refused}
+use Rattle.words.specs.Items.{itemSize, keywordsIn, Words}
 use Rattle.words.proofs.Storing.{begins-cut}
 use Rattle.sets.specs.Reading.{Read}
 
@@ -26,12 +27,12 @@ pub record Opened (s l : List ℕ) : Type 0 where
 pub opened-count : (s : List ℕ) (n : ℕ) {l : List ℕ} → Read s (Counted.Number n) l → (fileVerdict s ≡ pass) × (n ≡ length (keywords s))
 opened-count s n read = counted-number (length (keywords s)) (fileVerdict s) (numbered-file s) (read .told)
 
-pub opened-room : (s : List ℕ) (n : ℕ) {l : List ℕ} → Read s (Counted.Number n) l → entrySize * n ≤ length l
+pub opened-room : (s : List ℕ) (n : ℕ) {l : List ℕ} → Read s (Counted.Number n) l → itemSize * n ≤ length l
 opened-room s n read =
     let (passed, count) = opened-count s n read in
     rw count (read .begins passed .room)
 
-pub opened : (s : List ℕ) (n : ℕ) {l : List ℕ} → Read s (Counted.Number n) l → Opened s (take (entrySize * n) l)
+pub opened : (s : List ℕ) (n : ℕ) {l : List ℕ} → Read s (Counted.Number n) l → Opened s (take (itemSize * n) l)
 opened s n read =
     let (passed, count) = opened-count s n read in
     let cut = begins-cut n count (read .begins passed) in

@@ -10,9 +10,9 @@ use lib.ListN.{getD, take, drop}
 use lib.Seq.{drop-cons}
 use lib.Dec.{eqb}
 use borrow.Author.Tests.{eq-eqb, ne-eqb}
-use Rattle.rules.specs.Limits.{recordSize, longestWord}
-use Rattle.rules.specs.Strings.{any}
-use Rattle.rules.specs.Sets.{recordAt}
+use Rattle.rules.specs.sets.Limits.{recordSize, longestWord}
+use Rattle.rules.specs.strings.Strings.{any}
+use Rattle.rules.specs.Beside.{recordAt}
 use Rattle.sets.specs.Reading.{Stated, paddingFault}
 use Rattle.sets.proofs.Records.{record-at, record-length}
 

@@ -6,8 +6,9 @@ use mathlib.Core.Path.{_≡_, _∙_, ap}
 use mathlib.Core.List.{List}
 use lib.ListN.{length, getD, drop, length-take, length-drop}
 use lib.Seq.{getD-take, getD-drop}
-use Rattle.rules.specs.Limits.{recordSize}
-use Rattle.rules.specs.Sets.{keywordOf, recordAt, keywordAt}
+use Rattle.rules.specs.sets.Limits.{recordSize}
+use Rattle.rules.specs.sets.Sets.{keywordOf}
+use Rattle.rules.specs.Beside.{recordAt, keywordAt}
 use Rattle.sets.specs.Reading.{Stated}
 
 module _ (s : List ℕ) (i : ℕ) (whole : recordSize * i + recordSize ≤ length s) where

@@ -6,14 +6,14 @@ use mathlib.Core.List.{List, []}
 use lib.ListN.{length, take, getD, drop}
 use lib.Dec.{eqb}
 use Rattle.rules.specs.declared.Counted.{Counted}
-use Rattle.rules.specs.Limits.{recordSize, longestWord, mostKeywords}
-use Rattle.rules.specs.Strings.{any}
-use Rattle.rules.specs.Sets.{keywords, keywordsFrom, recordAt}
-use Rattle.rules.specs.Refusals.{pass, recordVerdict, recordVerdicts, fileVerdict}
-use Rattle.rules.specs.Answers.{toldCount, toldCounted}
-use Rattle.rules.specs.Promises.{answerOr}
-use Rattle.rules.specs.Sound.{Sound}
-use Rattle.words.specs.Entries.{entrySize, Begins}
+use Rattle.rules.specs.sets.Limits.{recordSize, longestWord, mostKeywords}
+use Rattle.rules.specs.strings.Strings.{any}
+use Rattle.rules.specs.sets.Sets.{keywords, keywordsFrom}
+use Rattle.rules.specs.answers.Refusals.{pass, recordVerdict, recordVerdicts, fileVerdict}
+use Rattle.rules.specs.answers.Answers.{toldCount, toldCounted}
+use Rattle.rules.specs.answers.Promises.{answerOr}
+use Rattle.rules.specs.Beside.{Sound, recordAt}
+use Rattle.words.specs.Items.{itemSize, Begins}
 
 -- record i of the set s is whole and states the length n, which a keyword may have
 pub record Stated (s : List ℕ) (i n : ℕ) : Type 0 where
@@ -29,7 +29,7 @@ paddingFault s i n = any (λ b. not (eqb b 0)) (take (longestWord - n) (drop (1 
 pub record Reading (s : List ℕ) (i : ℕ) (l : List ℕ) : Type 0 where
   pub whole : recordSize * i + recordSize ≤ length s
   pub few : i < mostKeywords
-  pub room : entrySize * mostKeywords ≤ length l
+  pub room : itemSize * mostKeywords ≤ length l
   pub passed : recordVerdicts i 0 [] s ≡ pass
   pub begins : Begins l (keywordsFrom 0 i s)
 

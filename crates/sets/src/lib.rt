@@ -1,19 +1,19 @@
-// The reader of a keyword set's bytes: the tests 1 to 6, and the keywords as words. Only this crate knows a record's size and the places
-// in it.
+// The reader of a keyword set's bytes: the tests 1 to 6, and the keywords as words. Only this crate knows a record's
+// size and the places in it.
 use rules::Counted;
 use rules::KEYWORDS;
 use rules::LONGEST;
 use rules::Refusal;
-use words::ENTRY;
+use words::ITEM;
 use words::Word;
 use words::put;
 use words::repeated;
 ghost use mathlib.Core.Path.{_≡_};
 ghost use Prim.Native.Nat.{_+_, _*_, _<_, _≤_};
 ghost use lib.ListN.{length, getD};
-ghost use Rattle.rules.specs.Limits.{recordSize, mostKeywords, longestWord};
-ghost use Rattle.rules.specs.Sets.{keywordAt};
-ghost use Rattle.words.specs.Entries.{entrySize, wordOf};
+ghost use Rattle.rules.specs.sets.Limits.{recordSize, mostKeywords, longestWord};
+ghost use Rattle.rules.specs.Beside.{keywordAt};
+ghost use Rattle.words.specs.Items.{itemSize, wordOf};
 ghost use Rattle.sets.specs.Reading.{Stated, paddingFault, Reading, RecordRead, Read};
 
 // The bytes of a record.
@@ -95,7 +95,7 @@ fn read_record(set: &[u8], i: usize, words: &mut [u16]) -> Counted
         return Counted::Refused(Refusal::Padding { record });
     }
     put(words, i, word(set, i, n));
-    let end = ENTRY * (i + 1);
+    let end = ITEM * (i + 1);
     if repeated(&words[..end], i) {
         return Counted::Refused(Refusal::Repeated { record });
     }
@@ -104,7 +104,7 @@ fn read_record(set: &[u8], i: usize, words: &mut [u16]) -> Counted
 
 // The tests 1 to 6 of a set, and its keywords at the front of a list with room for 64.
 pub fn read(set: &[u8], words: &mut [u16]) -> Counted
-    requires { ⌜ entrySize * mostKeywords ≤ length (now words) ⌝ }
+    requires { ⌜ itemSize * mostKeywords ≤ length (now words) ⌝ }
     ensures { λ r. ⌜ Read (now (set .entry)) r (now (words .exit)) ⌝ }
 {
     let size = set.len();

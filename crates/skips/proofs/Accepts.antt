@@ -1,19 +1,20 @@
--- The check answers with no refusal exactly where the tests before it pass and the table is safe: no refusal has the number 0.
+-- The check answers with no refusal exactly where the tests before it pass and the table is safe: no refusal has the
+-- number 0.
 use Prim.Native.Nat.{ℕ}
 use mathlib.Core.Path.{_≡_, refl, ap, _∙_, sym}
 use mathlib.Core.Logic.{_↔_}
 use mathlib.Core.List.{List}
 use lib.ListN.{length}
-use Rattle.rules.specs.Sets.{Keyword, keywords}
-use Rattle.rules.specs.Rows.{backward}
-use Rattle.rules.specs.Refusals.{Verdict, pass, orElse, tableVerdict}
-use Rattle.rules.specs.Answers.{Told}
-use Rattle.rules.specs.Promises.{rowsTold, roomVerdict, tableEntry, Check, CheckOf}
-use Rattle.rules.specs.Audit.{Accepted}
-use Rattle.rules.proofs.Verdicts.{orElse-exactly}
-use Rattle.rules.proofs.Refused.{Numbered, numbered-both, numbered-file, numbered-size, numbered-workspace, numbered-table, answered-passed}
-use Rattle.rules.proofs.Counts.{answer-passed}
-use Rattle.rules.proofs.Tables.{accepted-exactly}
+use Rattle.rules.specs.sets.Sets.{Keyword, keywords}
+use Rattle.rules.specs.rows.Rows.{backward}
+use Rattle.rules.specs.answers.Refusals.{Verdict, pass, orElse, tableVerdict}
+use Rattle.rules.specs.answers.Answers.{Told}
+use Rattle.rules.specs.answers.Promises.{rowsTold, roomVerdict, tableEntry, Check, CheckOf}
+use Rattle.rules.specs.scans.Audit.{Accepted}
+use Rattle.rules.proofs.answers.Verdicts.{orElse-exactly}
+use Rattle.rules.proofs.answers.Refused.{Numbered, numbered-both, numbered-file, numbered-size, numbered-workspace, numbered-table, answered-passed}
+use Rattle.rules.proofs.answers.Counts.{answer-passed}
+use Rattle.rules.proofs.skips.Tables.{accepted-exactly}
 
 pub rows-told : (ks : List Keyword) → rowsTold ks .number ≡ 0
 unfolding rowsTold

@@ -1,5 +1,5 @@
--- Records laid into a buffer one behind another are the row file laid over its front: each is a run of stores behind those
--- before it.
+-- Records laid into a buffer one behind another are the row file laid over its front: each is a run of stores behind
+-- those before it.
 use Prim.Native.Nat.{ℕ, _+_, _*_, _≤_, _<_}
 use native.Mathlib.Omega.{arith}
 use native.Mathlib.Numerals.{add-one}
@@ -7,13 +7,13 @@ use mathlib.Core.Path.{_≡_, refl, sym, _∙_, ap}
 use mathlib.Core.List.{List, [], _∷_, _++_, flatMap, append-assoc, append-nil}
 use lib.ListN.{length, take, getD, set, length-append}
 use lib.Seq.{paste, paste-zero, paste-suc, length-paste, take-length, take-suc, take-all, sets-eq}
-use Rattle.rules.specs.Limits.{rowRecord, longestWord}
-use Rattle.rules.specs.Sets.{Keyword}
-use Rattle.rules.specs.Rows.{backward, rowsOf}
-use Rattle.rules.specs.Hits.{over}
-use Rattle.rules.specs.Skips.{named, inner, edge, suffixRows, rowFile, recordOf}
-use Rattle.rules.proofs.Buffers.{over-sets, over-length}
-use Rattle.rules.proofs.Tables.{suffixRows-length, named-length}
+use Rattle.rules.specs.sets.Limits.{rowRecord, longestWord}
+use Rattle.rules.specs.sets.Sets.{Keyword}
+use Rattle.rules.specs.rows.Rows.{backward, rowsOf}
+use Rattle.rules.specs.scans.Hits.{over}
+use Rattle.rules.specs.skips.Skips.{named, inner, edge, suffixRows, rowFile, recordOf}
+use Rattle.rules.proofs.scans.Buffers.{over-sets, over-length}
+use Rattle.rules.proofs.skips.Tables.{suffixRows-length, named-length}
 use Rattle.skips.specs.declared.suffixes.Place.{Place}
 use Rattle.skips.specs.Suffixes.{Suffix, At, suffixAt, putAt}
 use Rattle.skips.proofs.Matches.{suffix-length, suffix-short}

@@ -1,4 +1,5 @@
--- The numbers of a byte file are judged by place: the verdict of the file is that of the places from p on, once those before passed.
+-- The numbers of a byte file are judged by place: the verdict of the file is that of the places from p on, once those
+-- before passed.
 use Prim.Native.Nat.{ℕ, suc, _+_, _-_, _/_, _%_, _≤_, _<_}
 use native.Mathlib.Omega.{arith}
 use native.Mathlib.Numerals.{add-one}
@@ -7,10 +8,10 @@ use mathlib.Core.Bool.{true, false}
 use mathlib.Core.List.{List}
 use lib.ListN.{drop, getD}
 use lib.Seq.{drop-drop, getD-drop}
-use Rattle.rules.specs.Limits.{byteFileSize, depths}
-use Rattle.rules.specs.Sets.{Keyword}
-use Rattle.rules.specs.Skips.{far}
-use Rattle.rules.specs.Refusals.{pass, refuse, refuseIf, orElse, faulty, farVerdicts}
+use Rattle.rules.specs.sets.Limits.{byteFileSize, depths}
+use Rattle.rules.specs.sets.Sets.{Keyword}
+use Rattle.rules.specs.skips.Skips.{far}
+use Rattle.rules.specs.answers.Refusals.{pass, refuse, refuseIf, orElse, faulty, farVerdicts}
 
 -- the numbers before place p passed
 pub record FarsPassed (ks : List Keyword) (file : List ℕ) (p : ℕ) : Type 0 where

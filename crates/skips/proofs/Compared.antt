@@ -9,11 +9,11 @@ use lib.ListN.{length, take, drop, getD, length-drop}
 use lib.Seq.{take-suc, take-take, getD-take, getD-drop}
 use lib.Dec.{eqb, ltb}
 use borrow.Author.Tests.{eq-eqb, lt-ltb}
-use Rattle.rules.specs.Limits.{rowRecord}
-use Rattle.rules.specs.Strings.{same}
-use Rattle.rules.specs.Refusals.{faulty}
-use Rattle.rules.proofs.Strings.{fails, same-true, eq-same, or-left, or-right}
-use Rattle.rules.proofs.Tables.{faulty-allowed}
+use Rattle.rules.specs.sets.Limits.{rowRecord}
+use Rattle.rules.specs.strings.Strings.{same}
+use Rattle.rules.specs.answers.Refusals.{faulty}
+use Rattle.rules.proofs.strings.Strings.{fails, same-true, eq-same, or-left, or-right}
+use Rattle.rules.proofs.skips.Tables.{faulty-allowed}
 use Rattle.skips.specs.Judging.{faultOf}
 
 pub faulty-zero : (largest n : ℕ) → n ≡ 0 → faulty largest n ≡ true

@@ -1,5 +1,5 @@
--- The far numbers of the places passed, fifteen a keyword: each is the lowest distance met so far, or the shortest keyword's length,
--- so behind the last place it is the least at which some keyword holds the byte.
+-- The far numbers of the places passed, fifteen a keyword: each is the lowest distance met so far, or the shortest
+-- keyword's length, so behind the last place it is the least at which some keyword holds the byte.
 use Prim.Native.Nat.{ℕ, suc, _+_, _-_, _*_, _/_, _%_, _≤_, _<_, min}
 use native.Mathlib.Omega.{arith}
 use native.Mathlib.Nat.{eq-or-lt-of-le, zero-add}
@@ -11,18 +11,18 @@ use lib.ListN.{length, getD, set, replicate, length-map, length-set, length-repl
 use lib.Seq.{getD-set-same, getD-set-other, ext-getD}
 use lib.Dec.{eqb, leb, ltb}
 use borrow.Author.Tests.{eqb-true, eq-eqb, eqb-false, leb-true, leb-false, ltb-true, ltb-false}
-use Rattle.rules.specs.Limits.{longestWord, depths, opcodes}
-use Rattle.rules.specs.Strings.{any}
-use Rattle.rules.specs.Sets.{Keyword, shortest}
-use Rattle.rules.specs.Skips.{holdsBefore, far, count, farTest}
-use Rattle.rules.specs.Sound.{Sound, noKeyword, nth}
-use Rattle.rules.proofs.Strings.{either, never, any-true}
-use Rattle.rules.proofs.Rows.{any-at}
-use Rattle.rules.proofs.Parts.{getD-map-within}
-use Rattle.rules.proofs.Orders.{mem-at}
-use Rattle.rules.proofs.Distances.{holds-short}
-use Rattle.rules.proofs.Lowest.{least-is, holds-byte}
-use Rattle.rules.proofs.Tables.{count-length, count-at}
+use Rattle.rules.specs.sets.Limits.{longestWord, depths, opcodes}
+use Rattle.rules.specs.strings.Strings.{any}
+use Rattle.rules.specs.sets.Sets.{Keyword, shortest}
+use Rattle.rules.specs.skips.Skips.{holdsBefore, far, count, farTest}
+use Rattle.rules.specs.Beside.{Sound, noKeyword, nth}
+use Rattle.rules.proofs.strings.Strings.{either, never, any-true}
+use Rattle.rules.proofs.rows.Rows.{any-at}
+use Rattle.rules.proofs.strings.Parts.{getD-map-within}
+use Rattle.rules.proofs.strings.Orders.{mem-at}
+use Rattle.rules.proofs.skips.Distances.{holds-short}
+use Rattle.rules.proofs.skips.Lowest.{least-is, holds-byte}
+use Rattle.rules.proofs.skips.Tables.{count-length, count-at}
 use Rattle.skips.specs.Fars.{lowered, farTable}
 use Rattle.skips.proofs.Lowering.{lowered-length, lowered-before, lowered-behind}
 

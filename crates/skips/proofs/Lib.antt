@@ -1,4 +1,5 @@
--- Laws of suffixes, far numbers and verdicts that the proofs of the functions lean on, and the two theorems of skip tables.
+-- Laws of suffixes, far numbers and verdicts that the proofs of the functions lean on, and the two theorems of skip
+-- tables.
 pub mod Matches
 pub mod Places
 pub mod Buffers

@@ -4,21 +4,21 @@ use native.Mathlib.Omega.{arith}
 use mathlib.Core.Path.{_≡_, sym, _∙_, ap}
 use mathlib.Core.List.{List}
 use lib.ListN.{length, take, getD}
-use Rattle.rules.specs.Limits.{rowRecord, byteFileSize, opcodes}
-use Rattle.rules.specs.Sets.{Keyword, keywords}
-use Rattle.rules.specs.Rows.{backward, rowsOf}
-use Rattle.rules.specs.Hits.{over}
-use Rattle.rules.specs.Skips.{rowFile, byteFile}
-use Rattle.rules.specs.Refusals.{Verdict, pass, bufferVerdict}
-use Rattle.rules.specs.Answers.{Told}
-use Rattle.rules.specs.Promises.{onPass, kept, rowsTold, tableEntry, makeVerdict, Make, MakeOf, Check, CheckOf}
-use Rattle.rules.specs.Sound.{Sound}
-use Rattle.rules.specs.Audit.{Accepted}
-use Rattle.rules.proofs.Verdicts.{orElse-pass}
-use Rattle.rules.proofs.Refused.{Numbered, numbered-if, numbered-both, answered-passed}
-use Rattle.rules.proofs.Bytes.{bytes-sound}
-use Rattle.rules.proofs.Buffers.{over-front}
-use Rattle.rules.proofs.Tables.{rowFile-length, byteFile-length, made-accepted}
+use Rattle.rules.specs.sets.Limits.{rowRecord, byteFileSize, opcodes}
+use Rattle.rules.specs.sets.Sets.{Keyword, keywords}
+use Rattle.rules.specs.rows.Rows.{backward, rowsOf}
+use Rattle.rules.specs.scans.Hits.{over}
+use Rattle.rules.specs.skips.Skips.{rowFile, byteFile}
+use Rattle.rules.specs.answers.Refusals.{Verdict, pass, bufferVerdict}
+use Rattle.rules.specs.answers.Answers.{Told}
+use Rattle.rules.specs.answers.Promises.{onPass, kept, rowsTold, tableEntry, makeVerdict, Make, MakeOf, Check, CheckOf}
+use Rattle.rules.specs.scans.Audit.{Accepted}
+use Rattle.rules.specs.Beside.{Sound}
+use Rattle.rules.proofs.answers.Verdicts.{orElse-pass}
+use Rattle.rules.proofs.answers.Refused.{Numbered, numbered-if, numbered-both, answered-passed}
+use Rattle.rules.proofs.sets.Bytes.{bytes-sound}
+use Rattle.rules.proofs.scans.Buffers.{over-front}
+use Rattle.rules.proofs.skips.Tables.{rowFile-length, byteFile-length, made-accepted}
 use Rattle.skips.proofs.Accepts.{check-answers, entry-numbered}
 
 -- the front of a buffer, as much as a file has

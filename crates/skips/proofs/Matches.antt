@@ -7,20 +7,20 @@ use mathlib.Core.List.{List, _∷_, [], List·Memᴰ}
 use lib.ListN.{length, take, drop, getD, length-take, length-drop}
 use lib.Seq.{drop-drop, take-all, getD-drop}
 use Rattle.rules.specs.declared.Way.the-variants.{Forward}
-use Rattle.rules.specs.Limits.{longestWord, opcodes}
-use Rattle.rules.specs.Strings.{same, any}
-use Rattle.rules.specs.Sets.{Keyword, shortest}
-use Rattle.rules.specs.Rows.{readBy}
-use Rattle.rules.specs.Skips.{least, inner, edge, holdsBefore, endsWithin}
-use Rattle.rules.specs.Sound.{noKeyword, nth}
-use Rattle.rules.proofs.Strings.{same-sym, any-append}
-use Rattle.rules.proofs.Rows.{any-at}
-use Rattle.rules.proofs.Orders.{getD-mem}
-use Rattle.rules.proofs.Parts.{drop-take}
-use Rattle.rules.proofs.Distances.{holds-short, holds-part, ends-whole, ends-short, ends-front}
-use Rattle.words.specs.Entries.{Words, Has, keywordsIn}
+use Rattle.rules.specs.sets.Limits.{longestWord, opcodes}
+use Rattle.rules.specs.strings.Strings.{same, any}
+use Rattle.rules.specs.sets.Sets.{Keyword, shortest}
+use Rattle.rules.specs.rows.Rows.{readBy}
+use Rattle.rules.specs.skips.Skips.{least, inner, edge, holdsBefore, endsWithin}
+use Rattle.rules.specs.Beside.{noKeyword, nth}
+use Rattle.rules.proofs.strings.Strings.{same-sym, any-append}
+use Rattle.rules.proofs.rows.Rows.{any-at}
+use Rattle.rules.proofs.strings.Orders.{getD-mem}
+use Rattle.rules.proofs.strings.Parts.{drop-take}
+use Rattle.rules.proofs.skips.Distances.{holds-short, holds-part, ends-whole, ends-short, ends-front}
+use Rattle.words.specs.Items.{Words, Has, keywordsIn}
 use Rattle.words.specs.Read.{wayOf, readAt}
-use Rattle.words.proofs.Entries.{has-at}
+use Rattle.words.proofs.Items.{has-at}
 use Rattle.words.proofs.Counted.{front-more}
 use Rattle.skips.specs.declared.numbers.Number.{Number}
 use Rattle.skips.specs.declared.numbers.Number.the-variants.{Inner, Edge}

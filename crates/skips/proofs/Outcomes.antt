@@ -7,18 +7,18 @@ use borrow.Author.Tests.{ltb-false, lt-ltb, le-ltb}
 use Rattle.rules.specs.declared.Refusal.{Refusal}
 use Rattle.rules.specs.declared.Refusal.the-variants.{RowBufferShort, ByteBufferShort}
 use Rattle.rules.specs.declared.Counted.{Counted}
-use Rattle.rules.specs.Limits.{mostRows, rowCells, rowRecord, byteFileSize}
-use Rattle.rules.specs.Sets.{Keyword, keywords}
-use Rattle.rules.specs.Rows.{backward, rowsOf, cells}
-use Rattle.rules.specs.Hits.{over}
-use Rattle.rules.specs.Skips.{rowFile, byteFile}
-use Rattle.rules.specs.Refusals.{pass, refuse, refuseIf, orElse, fileVerdict, rowsVerdict, traceVerdict, workspaceVerdict, entryVerdict, tableVerdict, bufferVerdict}
-use Rattle.rules.specs.Answers.{Told, numberOf, placeOf, toldCount, toldCounted}
-use Rattle.rules.specs.Promises.{onPass, kept, answerOr, withRows, roomVerdict, tableEntry, rowsTold, Make, MakeOf, makeVerdict, Check, CheckOf}
-use Rattle.rules.proofs.Verdicts.{orElse-pass, refuseIf-pass, pass-orElse, refuse-orElse}
-use Rattle.rules.proofs.Refused.{Numbered, numbered-both, numbered-size, numbered-workspace}
-use Rattle.rules.proofs.Counts.{answer-refused, counted-number, counted-refused}
-use Rattle.words.specs.Entries.{keywordsIn}
+use Rattle.rules.specs.sets.Limits.{mostRows, rowCells, rowRecord, byteFileSize}
+use Rattle.rules.specs.sets.Sets.{Keyword, keywords}
+use Rattle.rules.specs.rows.Rows.{backward, rowsOf, cells}
+use Rattle.rules.specs.scans.Hits.{over}
+use Rattle.rules.specs.skips.Skips.{rowFile, byteFile}
+use Rattle.rules.specs.answers.Refusals.{pass, refuse, refuseIf, orElse, fileVerdict, rowsVerdict, traceVerdict, workspaceVerdict, entryVerdict, tableVerdict, bufferVerdict}
+use Rattle.rules.specs.answers.Answers.{Told, numberOf, placeOf, toldCount, toldCounted}
+use Rattle.rules.specs.answers.Promises.{onPass, kept, answerOr, withRows, roomVerdict, tableEntry, rowsTold, Make, MakeOf, makeVerdict, Check, CheckOf}
+use Rattle.rules.proofs.answers.Verdicts.{orElse-pass, refuseIf-pass, pass-orElse, refuse-orElse}
+use Rattle.rules.proofs.answers.Refused.{Numbered, numbered-both, numbered-size, numbered-workspace}
+use Rattle.rules.proofs.answers.Counts.{answer-refused, counted-number, counted-refused}
+use Rattle.words.specs.Items.{keywordsIn}
 use Rattle.sets.proofs.Opened.{Opened}
 use Rattle.skips.specs.Beginning.{Begun}
 

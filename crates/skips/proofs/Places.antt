@@ -1,5 +1,5 @@
--- A row of its own is a keyword's suffix that no earlier keyword ends with, one byte longer than the row before it: so the
--- rows are met keyword by keyword, each from the first byte that it does not share.
+-- A row of its own is a keyword's suffix that no earlier keyword ends with, one byte longer than the row before it:
+-- so the rows are met keyword by keyword, each from the first byte that it does not share.
 use Prim.Native.Nat.{ℕ, suc, _+_, _-_, _≤_, _<_}
 use native.Mathlib.Omega.{arith}
 use native.Mathlib.Nat.{eq-or-lt-of-le}
@@ -8,14 +8,14 @@ use mathlib.Core.Logic.{⊎-elim}
 use mathlib.Core.List.{List, [], reverse}
 use lib.ListN.{length, drop, getD, drop-of-length-le}
 use lib.Seq.{take-all}
-use Rattle.rules.specs.Sets.{Keyword}
-use Rattle.rules.specs.Rows.{backward, readBy, rowsOf}
-use Rattle.rules.specs.Skips.{suffixRows}
-use Rattle.rules.specs.Sound.{Sound, nth}
-use Rattle.rules.proofs.Rows.{rowed-rows, readBy-length}
-use Rattle.rules.proofs.Parts.{reverse-take}
-use Rattle.rules.proofs.NewRows.{set-row-at}
-use Rattle.rules.proofs.Tables.{suffixRows-at}
+use Rattle.rules.specs.sets.Sets.{Keyword}
+use Rattle.rules.specs.rows.Rows.{backward, readBy, rowsOf}
+use Rattle.rules.specs.skips.Skips.{suffixRows}
+use Rattle.rules.specs.Beside.{Sound, nth}
+use Rattle.rules.proofs.rows.Rows.{rowed-rows, readBy-length}
+use Rattle.rules.proofs.strings.Parts.{reverse-take}
+use Rattle.rules.proofs.rows.NewRows.{set-row-at}
+use Rattle.rules.proofs.skips.Tables.{suffixRows-at}
 use Rattle.words.specs.Read.{earlier, readAt}
 use Rattle.words.proofs.Counted.{most-none, most-within, rows-none, rows-more}
 use Rattle.skips.specs.Suffixes.{Listed, Walked, At, suffixAt, sharedAt, rowsBefore}

@@ -1,4 +1,5 @@
--- The records of a row file are judged by row: the verdict of the file is that of the rows from one on, once those before passed.
+-- The records of a row file are judged by row: the verdict of the file is that of the rows from one on, once those
+-- before passed.
 use Prim.Native.Nat.{ℕ, suc, _+_, _*_, _≤_, _<_}
 use native.Mathlib.Omega.{arith}
 use native.Mathlib.Numerals.{add-one}
@@ -9,14 +10,14 @@ use lib.ListN.{length, take, drop, getD, drop-of-length-le}
 use lib.Seq.{drop-cons, drop-drop, take-take, take-at, getD-take, getD-append-add}
 use lib.Dec.{eqb}
 use borrow.Author.Tests.{ne-eqb}
-use Rattle.rules.specs.Limits.{longestWord, rowRecord}
-use Rattle.rules.specs.Strings.{same}
-use Rattle.rules.specs.Sets.{Keyword}
-use Rattle.rules.specs.Skips.{inner, edge, suffixRows, named, recordOf}
-use Rattle.rules.specs.Refusals.{Verdict, pass, refuse, refuseIf, orElse, faulty, rowVerdicts}
-use Rattle.rules.proofs.Verdicts.{refuse-no-pass}
-use Rattle.rules.proofs.Refused.{Numbered, numbered-if, numbered-both}
-use Rattle.rules.proofs.Tables.{named-length}
+use Rattle.rules.specs.sets.Limits.{longestWord, rowRecord}
+use Rattle.rules.specs.strings.Strings.{same}
+use Rattle.rules.specs.sets.Sets.{Keyword}
+use Rattle.rules.specs.skips.Skips.{inner, edge, suffixRows, named, recordOf}
+use Rattle.rules.specs.answers.Refusals.{Verdict, pass, refuse, refuseIf, orElse, faulty, rowVerdicts}
+use Rattle.rules.proofs.answers.Verdicts.{refuse-no-pass}
+use Rattle.rules.proofs.answers.Refused.{Numbered, numbered-if, numbered-both}
+use Rattle.rules.proofs.skips.Tables.{named-length}
 use Rattle.skips.specs.Judging.{faultOf}
 use Rattle.skips.proofs.Compared.{rowRecordAt}
 

@@ -1,4 +1,5 @@
--- A row's record is filled from the front: the suffix's length, its first k bytes, zeros behind, and at the end the two numbers.
+-- A row's record is filled from the front: the suffix's length, its first k bytes, zeros behind, and at the end the
+-- two numbers.
 use Prim.Native.Nat.{ℕ, suc, _+_, _-_, _≤_, _<_}
 use native.Mathlib.Omega.{arith}
 use native.Mathlib.Numerals.{add-one}
@@ -6,9 +7,9 @@ use mathlib.Core.Path.{_≡_, sym, _∙_, ap}
 use mathlib.Core.List.{List, [], _∷_, _++_, append-assoc}
 use lib.ListN.{length, take, getD, set, replicate, length-append, replicate-append-replicate}
 use lib.Seq.{take-suc, take-all, length-take-le, set-at, append-snoc}
-use Rattle.rules.specs.Limits.{longestWord}
-use Rattle.rules.specs.Skips.{named}
-use Rattle.rules.proofs.Tables.{named-length}
+use Rattle.rules.specs.sets.Limits.{longestWord}
+use Rattle.rules.specs.skips.Skips.{named}
+use Rattle.rules.proofs.skips.Tables.{named-length}
 
 -- the length of v and its first k bytes stand in the record
 pub record Spelled (v numbers : List ℕ) (k : ℕ) : Type 0 where

@@ -4,13 +4,13 @@ use mathlib.Core.Path.{_≡_, sym, _∙_, ap}
 use mathlib.Core.List.{List}
 use lib.ListN.{length}
 use borrow.Author.Tests.{eq-eqb, ne-eqb}
-use Rattle.rules.specs.Sets.{Keyword}
-use Rattle.rules.specs.Rows.{backward, rowsOf}
-use Rattle.rules.specs.Skips.{suffixRows}
-use Rattle.rules.specs.Refusals.{pass, refuse, refuseIf, orElse, rowVerdicts, farVerdicts, tableVerdict}
-use Rattle.rules.specs.Answers.{Told, toldCount}
-use Rattle.rules.specs.Promises.{answerOr, rowsTold}
-use Rattle.rules.proofs.Tables.{suffixRows-length}
+use Rattle.rules.specs.sets.Sets.{Keyword}
+use Rattle.rules.specs.rows.Rows.{backward, rowsOf}
+use Rattle.rules.specs.skips.Skips.{suffixRows}
+use Rattle.rules.specs.answers.Refusals.{pass, refuse, refuseIf, orElse, rowVerdicts, farVerdicts, tableVerdict}
+use Rattle.rules.specs.answers.Answers.{Told, toldCount}
+use Rattle.rules.specs.answers.Promises.{answerOr, rowsTold}
+use Rattle.rules.proofs.skips.Tables.{suffixRows-length}
 
 module _ (ks : List Keyword) (rowf bytef : List ℕ) (rows : ℕ) (counted : rows ≡ length (rowsOf backward ks)) where
   count : length (suffixRows ks) ≡ rows

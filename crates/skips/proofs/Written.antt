@@ -6,12 +6,12 @@ use mathlib.Core.Path.{_≡_, sym, _∙_, ap}
 use mathlib.Core.List.{List, [], _∷_, _++_}
 use lib.ListN.{length, take, set, getD, length-take}
 use lib.Seq.{take-suc, take-all}
-use Rattle.rules.specs.Limits.{byteFileSize, depths}
-use Rattle.rules.specs.Sets.{Keyword}
-use Rattle.rules.specs.Hits.{over}
-use Rattle.rules.specs.Skips.{far, byteFile}
-use Rattle.rules.proofs.Buffers.{over-none, over-more}
-use Rattle.rules.proofs.Tables.{byteFile-length, byteFile-at}
+use Rattle.rules.specs.sets.Limits.{byteFileSize, depths}
+use Rattle.rules.specs.sets.Sets.{Keyword}
+use Rattle.rules.specs.scans.Hits.{over}
+use Rattle.rules.specs.skips.Skips.{far, byteFile}
+use Rattle.rules.proofs.scans.Buffers.{over-none, over-more}
+use Rattle.rules.proofs.skips.Tables.{byteFile-length, byteFile-at}
 use Rattle.skips.specs.Fars.{farTable}
 use Rattle.skips.proofs.FarTable.{farTable-at}
 

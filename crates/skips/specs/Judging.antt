@@ -4,14 +4,14 @@ use mathlib.Core.Path.{_≡_}
 use mathlib.Core.Bool.{_||_, cond}
 use mathlib.Core.List.{List}
 use lib.ListN.{length, take, getD}
-use Rattle.rules.specs.Strings.{same}
-use Rattle.rules.specs.Sets.{Keyword, shortest}
-use Rattle.rules.specs.Rows.{backward, rowsOf}
-use Rattle.rules.specs.Refusals.{faulty}
-use Rattle.rules.specs.Sound.{Sound}
+use Rattle.rules.specs.strings.Strings.{same}
+use Rattle.rules.specs.sets.Sets.{Keyword, shortest}
+use Rattle.rules.specs.rows.Rows.{backward, rowsOf}
+use Rattle.rules.specs.answers.Refusals.{faulty}
+use Rattle.rules.specs.Beside.{Sound}
 
--- the fault of a record f beside the best one, which has the largest numbers: 11 where it names another suffix, 12 where a number
--- is 0 or above the largest
+-- the fault of a record f beside the best one, which has the largest numbers: 11 where it names another suffix, 12
+-- where a number is 0 or above the largest
 unfoldable pub faultOf : List ℕ → List ℕ → ℕ
 faultOf best f =
     cond (same (take 16 f) (take 16 best))

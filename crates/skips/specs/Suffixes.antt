@@ -4,12 +4,12 @@ use mathlib.Core.Path.{_≡_}
 use mathlib.Core.Bool.{Bool}
 use mathlib.Core.List.{List, [], _++_}
 use lib.ListN.{length, take, drop, getD}
-use Rattle.rules.specs.Limits.{rowRecord}
-use Rattle.rules.specs.Strings.{any, mostCommon}
-use Rattle.rules.specs.Sets.{Keyword, shortest}
-use Rattle.rules.specs.Rows.{backward, rowsOf}
-use Rattle.rules.specs.Skips.{inner, edge, holdsBefore, endsWithin, suffixRows}
-use Rattle.rules.specs.Sound.{Sound, nth}
+use Rattle.rules.specs.sets.Limits.{rowRecord}
+use Rattle.rules.specs.strings.Strings.{any}
+use Rattle.rules.specs.sets.Sets.{Keyword, shortest}
+use Rattle.rules.specs.rows.Rows.{backward, rowsOf}
+use Rattle.rules.specs.skips.Skips.{inner, edge, holdsBefore, endsWithin, suffixRows}
+use Rattle.rules.specs.Beside.{Sound, nth, mostCommon}
 use Rattle.words.specs.Read.{earlier, readAt}
 use Rattle.skips.specs.declared.suffixes.Place.{Place}
 use Rattle.skips.specs.declared.numbers.Number.{Number}
@@ -37,8 +37,9 @@ pub record Part (ks : List Keyword) (i from z : ℕ) : Type 0 where
   pub listed : Listed ks i
   pub within : from + z ≤ length (nth ks i .word)
 
--- document 01's test of a number: inner's, that a keyword has the suffix with exactly n bytes after it, or edge's, that some string
--- made of the suffix and n further bytes ends with the keyword; over all keywords; and the number, the least that passes
+-- document 01's test of a number: inner's, that a keyword has the suffix with exactly n bytes after it, or edge's,
+-- that some string made of the suffix and n further bytes ends with the keyword; over all keywords; and the number,
+-- the least that passes
 unfoldable pub testOf : Number → List ℕ → ℕ → List ℕ → Bool
 testOf Inner = holdsBefore
 testOf Edge = endsWithin
@@ -54,7 +55,8 @@ largestOf Edge = edge
 unfoldable pub putAt : List ℕ → ℕ → List ℕ → List ℕ
 putAt old place new = take place old ++ new ++ drop (place + length new) old
 
--- how much of the keyword at place i, read backward, an earlier one begins with too, and how many rows the earlier ones have
+-- how much of the keyword at place i, read backward, an earlier one begins with too, and how many rows the earlier
+-- ones have
 unfoldable pub sharedAt : List Keyword → ℕ → ℕ
 sharedAt ks i = mostCommon (earlier backward ks i) (readAt backward ks i)
 

@@ -10,12 +10,12 @@ use words::unit;
 ghost use mathlib.Core.Path.{_≡_};
 ghost use Prim.Native.Nat.{_<_, _≤_};
 ghost use lib.ListN.{length};
-ghost use Rattle.rules.specs.Limits.{byteFileSize, depths};
-ghost use Rattle.rules.specs.Sets.{shortest};
-ghost use Rattle.rules.specs.Hits.{over};
-ghost use Rattle.rules.specs.Skips.{byteFile};
-ghost use Rattle.rules.specs.Sound.{Sound};
-ghost use Rattle.words.specs.Entries.{Words, keywordsIn};
+ghost use Rattle.rules.specs.sets.Limits.{byteFileSize, depths};
+ghost use Rattle.rules.specs.sets.Sets.{shortest};
+ghost use Rattle.rules.specs.scans.Hits.{over};
+ghost use Rattle.rules.specs.skips.Skips.{byteFile};
+ghost use Rattle.rules.specs.Beside.{Sound};
+ghost use Rattle.words.specs.Items.{Words, keywordsIn};
 ghost use Rattle.skips.specs.Fars.{lowered, farTable};
 
 // A byte's sixteen numbers, lowered by one place where it has d bytes after it.

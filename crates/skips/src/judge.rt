@@ -12,18 +12,18 @@ use words::shortest_of;
 ghost use mathlib.Core.Path.{_≡_};
 ghost use Prim.Native.Nat.{_+_, _*_, _≤_};
 ghost use lib.ListN.{length, take, drop};
-ghost use Rattle.rules.specs.Limits.{rowRecord, byteFileSize};
-ghost use Rattle.rules.specs.Rows.{backward, rowsOf};
-ghost use Rattle.rules.specs.Skips.{suffixRows};
-ghost use Rattle.rules.specs.Refusals.{rowVerdicts, farVerdicts, tableVerdict};
-ghost use Rattle.rules.specs.Answers.{toldCount, toldCounted};
-ghost use Rattle.rules.specs.Promises.{answerOr, rowsTold};
-ghost use Rattle.rules.specs.Sound.{Sound};
-ghost use Rattle.words.specs.Entries.{Words, keywordsIn};
+ghost use Rattle.rules.specs.sets.Limits.{rowRecord, byteFileSize};
+ghost use Rattle.rules.specs.rows.Rows.{backward, rowsOf};
+ghost use Rattle.rules.specs.skips.Skips.{suffixRows};
+ghost use Rattle.rules.specs.answers.Refusals.{rowVerdicts, farVerdicts, tableVerdict};
+ghost use Rattle.rules.specs.answers.Answers.{toldCount, toldCounted};
+ghost use Rattle.rules.specs.answers.Promises.{answerOr, rowsTold};
+ghost use Rattle.rules.specs.Beside.{Sound};
+ghost use Rattle.words.specs.Items.{Words, keywordsIn};
 ghost use Rattle.skips.specs.Judging.{Judging, faultOf};
 
-// The fault of a record of the row file beside the best one, which has the largest numbers: 0 for none, 11 where it names another suffix,
-// 12 where a number is 0 or above the largest.
+// The fault of a record of the row file beside the best one, which has the largest numbers: 0 for none, 11 where it
+// names another suffix, 12 where a number is 0 or above the largest.
 fn fault(file: &[u8], row: usize, best: [u8; ROW]) -> u16
     requires { ⌜ rowRecord * row + rowRecord ≤ length (now file) ⌝ }
     ensures { λ r. ⌜ r ≡ faultOf best (take rowRecord (drop (rowRecord * row) (now (file .entry)))) ⌝ }

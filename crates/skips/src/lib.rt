@@ -15,14 +15,14 @@ use rules::ROW;
 use rules::Refusal;
 use rules::Way;
 use sets::read;
-use words::ENTRY;
+use words::ITEM;
 use words::LIST;
 use words::shortest_of;
 ghost use lib.ListN.{length};
-ghost use Rattle.rules.specs.Answers.{toldCounted};
-ghost use Rattle.rules.specs.Promises.{roomVerdict, Make, MakeOf, Check, CheckOf};
-ghost use Rattle.rules.specs.Sound.{Sound};
-ghost use Rattle.words.specs.Entries.{Words, keywordsIn};
+ghost use Rattle.rules.specs.answers.Answers.{toldCounted};
+ghost use Rattle.rules.specs.answers.Promises.{roomVerdict, Make, MakeOf, Check, CheckOf};
+ghost use Rattle.rules.specs.Beside.{Sound};
+ghost use Rattle.words.specs.Items.{Words, keywordsIn};
 ghost use Rattle.skips.specs.Beginning.{Begun};
 
 // What making and the check begin with: the tests 7 and 9, and where they pass the backward rows in the workspace.
@@ -73,7 +73,8 @@ fn make_words(
     }
 }
 
-// The largest numbers of a set, at the front of two lent buffers: refusals 1 to 7, 9, 15 and 16, else the number of rows.
+// The largest numbers of a set, at the front of two lent buffers: refusals 1 to 7, 9, 15 and 16, else the number of
+// rows.
 pub fn make(
     set: &[u8],
     workspace: &mut [u16],
@@ -90,7 +91,7 @@ pub fn make(
     match found {
         Counted::Refused(fault) => Counted::Refused(fault),
         Counted::Number(count) => {
-            let end = ENTRY * count as usize;
+            let end = ITEM * count as usize;
             make_words(&list[..end], workspace, row_buffer, byte_buffer)
         }
     }
@@ -124,7 +125,7 @@ pub fn check(set: &[u8], row_file: &[u8], byte_file: &[u8], workspace: &mut [u16
     match found {
         Counted::Refused(fault) => Counted::Refused(fault),
         Counted::Number(count) => {
-            let end = ENTRY * count as usize;
+            let end = ITEM * count as usize;
             check_words(&list[..end], row_file, byte_file, workspace)
         }
     }

@@ -1,19 +1,20 @@
-// inner and edge of a suffix, as document 01 words them: against every keyword at every distance. A suffix is z units of the keyword at
-// place i, from an offset on.
+// inner and edge of a suffix, as document 01 words them: against every keyword at every distance. A suffix is z units
+// of the keyword at place i, from an offset on.
 use words::alike;
 use words::count_of;
 use words::length_of;
 ghost use mathlib.Core.Path.{_≡_};
 ghost use Prim.Native.Nat.{_<_};
-ghost use Rattle.rules.specs.Limits.{depths};
-ghost use Rattle.rules.specs.Sets.{shortest};
-ghost use Rattle.rules.specs.Skips.{holdsBefore, endsWithin};
-ghost use Rattle.rules.specs.Sound.{nth};
-ghost use Rattle.words.specs.Entries.{Words, keywordsIn};
+ghost use Rattle.rules.specs.sets.Limits.{depths};
+ghost use Rattle.rules.specs.sets.Sets.{shortest};
+ghost use Rattle.rules.specs.skips.Skips.{holdsBefore, endsWithin};
+ghost use Rattle.rules.specs.Beside.{nth};
+ghost use Rattle.words.specs.Items.{Words, keywordsIn};
 ghost use Rattle.skips.specs.Suffixes.{Part, Listed, partAt, testOf, somePasses, largestOf};
 
-// The two numbers of a suffix, each capped at the shortest keyword's length. inner: the least n from 1 up such that some keyword has it with
-// exactly n bytes after it. edge: the least n from 1 up such that some string made of it and n further bytes ends with a keyword.
+// The two numbers of a suffix, each capped at the shortest keyword's length. inner: the least n from 1 up such that
+// some keyword has it with exactly n bytes after it. edge: the least n from 1 up such that some string made of it and
+// n further bytes ends with a keyword.
 pub(crate) enum Number {
     Inner,
     Edge,

@@ -10,13 +10,13 @@ ghost use mathlib.Core.Path.{_≡_};
 ghost use mathlib.Core.List.{List};
 ghost use Prim.Native.Nat.{_+_, _*_, _<_, _≤_};
 ghost use lib.ListN.{length};
-ghost use Rattle.rules.specs.Limits.{rowRecord};
-ghost use Rattle.rules.specs.Sets.{Keyword, shortest};
-ghost use Rattle.rules.specs.Rows.{backward, rowsOf};
-ghost use Rattle.rules.specs.Hits.{over};
-ghost use Rattle.rules.specs.Skips.{rowFile, recordOf};
-ghost use Rattle.rules.specs.Sound.{Sound};
-ghost use Rattle.words.specs.Entries.{Words, keywordsIn};
+ghost use Rattle.rules.specs.sets.Limits.{rowRecord};
+ghost use Rattle.rules.specs.sets.Sets.{Keyword, shortest};
+ghost use Rattle.rules.specs.rows.Rows.{backward, rowsOf};
+ghost use Rattle.rules.specs.scans.Hits.{over};
+ghost use Rattle.rules.specs.skips.Skips.{rowFile, recordOf};
+ghost use Rattle.rules.specs.Beside.{Sound};
+ghost use Rattle.words.specs.Items.{Words, keywordsIn};
 ghost use Rattle.skips.specs.Suffixes.{Suffix, At, PutRows, suffixAt, putAt};
 
 // A row as a suffix: the last `depth` bytes of the keyword at a place.
@@ -35,7 +35,8 @@ pub(crate) fn first() -> Place
     }
 }
 
-// The row behind a row: one byte more of the same keyword, or the first suffix of a later keyword that no earlier one ends with.
+// The row behind a row: one byte more of the same keyword, or the first suffix of a later keyword that no earlier one
+// ends with.
 pub(crate) fn next(words: &[u16], at: Place, row: usize) -> Place
     requires { ⌜
         Words (now words)

@@ -1,4 +1,5 @@
--- Two strings compared one unit at a time: what they share, or whether they are the same, is decided behind the units passed.
+-- Two strings compared one unit at a time: what they share, or whether they are the same, is decided behind the units
+-- passed.
 use Prim.Native.Nat.{ℕ, suc, _+_, _-_, _≤_, _<_}
 use native.Mathlib.Omega.{arith}
 use native.Mathlib.Numerals.{add-one}
@@ -9,8 +10,9 @@ use lib.ListN.{length, getD, take, drop, drop-of-length-le}
 use lib.Seq.{drop-cons}
 use lib.Dec.{eqb}
 use borrow.Author.Tests.{eq-eqb, ne-eqb}
-use Rattle.rules.specs.Strings.{same, common}
-use Rattle.rules.proofs.Count.{common-nil}
+use Rattle.rules.specs.strings.Strings.{same}
+use Rattle.rules.specs.Beside.{common}
+use Rattle.rules.proofs.rows.Count.{common-nil}
 
 -- the strings a and b agree on their first k units
 pub record Agreed (a b : List ℕ) (k : ℕ) : Type 0 where

@@ -1,4 +1,5 @@
--- A keyword more adds the rows that it does not share and can only lower the least length, so both follow keyword by keyword.
+-- A keyword more adds the rows that it does not share and can only lower the least length, so both follow keyword by
+-- keyword.
 use Prim.Native.Nat.{ℕ, _+_, _-_, _≤_, _<_, min, max}
 use native.Mathlib.Omega.{arith}
 use native.Mathlib.Numerals.{add-one}
@@ -7,13 +8,13 @@ use mathlib.Core.Bool.{true, false}
 use mathlib.Core.List.{List, [], _∷_, _++_, map, map-append}
 use lib.ListN.{length, take, length-take}
 use lib.Seq.{take-suc, getD-take}
-use Rattle.rules.specs.Strings.{same, any, common, mostCommon}
-use Rattle.rules.specs.Sets.{Keyword, shortest, isKeyword}
-use Rattle.rules.specs.Rows as R
-use Rattle.rules.specs.Sound.{noKeyword, nth}
-use Rattle.rules.proofs.Rows.{any-at}
-use Rattle.rules.proofs.Count.{mostCommon-le, mostCommon-append, rowsOf-count}
-use Rattle.rules.proofs.Common.{shortest-more, isKeyword-more}
+use Rattle.rules.specs.strings.Strings.{same, any}
+use Rattle.rules.specs.sets.Sets.{Keyword, shortest, isKeyword}
+use Rattle.rules.specs.Beside.{noKeyword, nth, common, mostCommon}
+use Rattle.rules.specs.rows.Rows as R
+use Rattle.rules.proofs.rows.Rows.{any-at}
+use Rattle.rules.proofs.rows.Count.{mostCommon-le, mostCommon-append, rowsOf-count}
+use Rattle.rules.proofs.rows.Common.{shortest-more, isKeyword-more}
 use Rattle.words.specs.Read.{readAt, earlier}
 
 -- none of the keywords, and the first

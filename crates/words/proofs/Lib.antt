@@ -1,5 +1,5 @@
 -- Laws of the list of words that the proofs of the functions and of their callers lean on.
-pub mod Entries
+pub mod Items
 pub mod Compared
 pub mod Counted
 pub mod Places

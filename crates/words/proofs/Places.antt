@@ -6,10 +6,10 @@ use mathlib.Core.List.{List, List·Memᴰ}
 use lib.ListN.{length}
 use lib.Dec.{ltb}
 use borrow.Author.Tests.{ltb-true, ltb-false}
-use Rattle.rules.specs.Sets.{Keyword}
-use Rattle.rules.specs.Sound.{Sound, noKeyword, nth}
-use Rattle.rules.proofs.Strings.{either}
-use Rattle.rules.proofs.Orders.{ordered-at, mem-at}
+use Rattle.rules.specs.sets.Sets.{Keyword}
+use Rattle.rules.specs.Beside.{Sound, noKeyword, nth}
+use Rattle.rules.proofs.strings.Strings.{either}
+use Rattle.rules.proofs.strings.Orders.{ordered-at, mem-at}
 
 module _ {ks : List Keyword} (sound : Sound ks) where
   -- the number at a place is no lower than the place

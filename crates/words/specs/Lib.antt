@@ -1,3 +1,3 @@
 -- What the numbers of the list say, and how its keywords are read.
 pub mod Read
-pub mod Entries
+pub mod Items

@@ -4,9 +4,9 @@ use mathlib.Core.List.{List, map}
 use lib.ListN.{take}
 use Rattle.rules.specs.declared.Way.{Way}
 use Rattle.rules.specs.declared.Way.the-variants.{Forward, Backward}
-use Rattle.rules.specs.Sets.{Keyword}
-use Rattle.rules.specs.Rows as R
-use Rattle.rules.specs.Sound.{nth}
+use Rattle.rules.specs.sets.Sets.{Keyword}
+use Rattle.rules.specs.Beside.{nth}
+use Rattle.rules.specs.rows.Rows as R
 
 -- document 01's ways by the code's
 unfoldable pub wayOf : Way → R.Way

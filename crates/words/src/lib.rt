@@ -1,5 +1,5 @@
-// The words: the keywords of a set as one list of 16-bit numbers, nineteen a keyword. What is behind the tests of a set reads keywords
-// from here alone, and only this crate knows where a number lies.
+// The words: the keywords of a set as one list of 16-bit numbers, nineteen a keyword. What is behind the tests of a
+// set reads keywords from here alone, and only this crate knows where a number lies.
 use rules::LONGEST;
 use rules::Way;
 ghost use mathlib.Core.Path.{_≡_};
@@ -7,16 +7,16 @@ ghost use mathlib.Core.List.{List·Memᴰ};
 ghost use Prim.Native.Nat.{_+_, _*_, _<_, _≤_};
 ghost use lib.ListN.{length, take, drop, getD};
 ghost use lib.Seq.{paste};
-ghost use Rattle.rules.specs.Limits.{longestWord};
-ghost use Rattle.rules.specs.Strings.{same, common, mostCommon};
-ghost use Rattle.rules.specs.Sets.{Keyword, shortest, isKeyword};
-ghost use Rattle.rules.specs.Rows.{rowsOf};
-ghost use Rattle.rules.specs.Sound.{Sound, nth};
-ghost use Rattle.words.specs.Entries.{entrySize, Words, Has, keywordsIn, Numbering, wordOf, stored, Stored};
+ghost use Rattle.rules.specs.sets.Limits.{longestWord};
+ghost use Rattle.rules.specs.strings.Strings.{same};
+ghost use Rattle.rules.specs.sets.Sets.{Keyword, shortest, isKeyword};
+ghost use Rattle.rules.specs.rows.Rows.{rowsOf};
+ghost use Rattle.rules.specs.Beside.{Sound, nth, common, mostCommon};
+ghost use Rattle.words.specs.Items.{itemSize, Words, Has, keywordsIn, Numbering, wordOf, stored, Stored};
 ghost use Rattle.words.specs.Read.{wayOf, readAt, earlier};
 
 // The numbers of a keyword: its number, its length, fifteen units, its energy in two halves, the low one first.
-pub const ENTRY: usize = 19;
+pub const ITEM: usize = 19;
 
 // The numbers of a list that is enough for every set.
 pub const LIST: usize = 1216;
@@ -40,7 +40,7 @@ fn wide(x: u16) -> usize
 pub fn count_of(words: &[u16]) -> usize
     ensures { λ r. ⌜ r ≡ length (keywordsIn (now (words .entry))) ⌝ }
 {
-    words.len() / ENTRY
+    words.len() / ITEM
 }
 
 // The number of the keyword at place i.
@@ -48,7 +48,7 @@ pub fn number_of(words: &[u16], i: usize) -> usize
     requires { ⌜ Has (now words) i ⌝ }
     ensures { λ r. ⌜ (r ≡ nth (keywordsIn (now (words .entry))) i .number) × (r < 65536) ⌝ }
 {
-    wide(words[ENTRY * i])
+    wide(words[ITEM * i])
 }
 
 // Its length.
@@ -56,7 +56,7 @@ pub fn length_of(words: &[u16], i: usize) -> usize
     requires { ⌜ Has (now words) i ⌝ }
     ensures { λ r. ⌜ (r ≡ length (nth (keywordsIn (now (words .entry))) i .word)) × (r < 16) ⌝ }
 {
-    wide(words[ENTRY * i + 1])
+    wide(words[ITEM * i + 1])
 }
 
 // Its energy in picojoules.
@@ -64,8 +64,8 @@ pub fn energy_of(words: &[u16], i: usize) -> u64
     requires { ⌜ Has (now words) i ⌝ }
     ensures { λ r. ⌜ (r ≡ nth (keywordsIn (now (words .entry))) i .energy) × (r < 4294967296) ⌝ }
 {
-    let low = wide(words[ENTRY * i + 17]);
-    let high = wide(words[ENTRY * i + 18]);
+    let low = wide(words[ITEM * i + 17]);
+    let high = wide(words[ITEM * i + 18]);
     (low + 65536 * high) as u64
 }
 
@@ -75,8 +75,8 @@ pub fn unit(words: &[u16], i: usize, n: usize, k: usize, way: Way) -> u16
     ensures { λ r. ⌜ r ≡ getD (readAt (wayOf way) (keywordsIn (now (words .entry))) i) k 0 ⌝ }
 {
     match way {
-        Way::Forward => words[ENTRY * i + 2 + k],
-        Way::Backward => words[ENTRY * i + 1 + n - k],
+        Way::Forward => words[ITEM * i + 2 + k],
+        Way::Backward => words[ITEM * i + 1 + n - k],
     }
 }
 
@@ -118,8 +118,8 @@ pub fn alike(words: &[u16], i: usize, p: usize, j: usize, q: usize, n: usize) ->
         (take n (drop q (nth (keywordsIn (now (words .entry))) j .word)))
         ⌝ }
 {
-    let left = ENTRY * i + 2 + p;
-    let right = ENTRY * j + 2 + q;
+    let left = ITEM * i + 2 + p;
+    let right = ITEM * j + 2 + q;
     let mut k = 0;
     while k < n {
         if words[left + k] != words[right + k] {
@@ -247,13 +247,13 @@ fn put_units(words: &mut [u16], from: usize, units: [u16; LONGEST])
 
 // A keyword at place i of a list with room for it.
 pub fn put(words: &mut [u16], i: usize, word: Word)
-    requires { ⌜ (entrySize * i + entrySize ≤ length (now words)) × (word .len ≤ longestWord) ⌝ }
+    requires { ⌜ (itemSize * i + itemSize ≤ length (now words)) × (word .len ≤ longestWord) ⌝ }
     ensures { λ _. ⌜
         (now (words .exit) ≡ stored (now (words .entry)) i word)
         × Stored (now (words .entry)) i (wordOf word) (now (words .exit))
         ⌝ }
 {
-    let at = ENTRY * i;
+    let at = ITEM * i;
     let units = word.units;
     words[at] = word.number;
     words[at + 1] = word.len as u16;

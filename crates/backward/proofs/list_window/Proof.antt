@@ -4,7 +4,7 @@ use Prim.Native.Nat.{ℕ, suc, _-_, _≤_, _<_}
 use native.Mathlib.Omega.{arith}
 use mathlib.Core.Path.{_≡_, refl, _∙_}
 use mathlib.Core.List.{List}
-use Rattle.rules.specs.Hits.{Hit}
+use Rattle.rules.specs.scans.Hits.{Hit}
 use Rattle.backward.specs.Windowed.{Closing}
 use Rattle.backward.proofs.Closings.{Closed, closed-none, closed-hit, closed-more, closed-all}
 use Rattle.backward.proofs.list_window.Statement.{statement}

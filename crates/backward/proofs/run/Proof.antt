@@ -8,11 +8,11 @@ use mathlib.Core.List.{[]}
 use lib.ListN.{length, getD}
 use denote.Ref.{now}
 use borrow.Author.Needs.{needs}
-use Rattle.rules.specs.Limits.{opcodes}
+use Rattle.rules.specs.sets.Limits.{opcodes}
 use Rattle.rows.specs.Tree.{Answered}
 use Rattle.backward.specs.Windowed.{Safe}
 use Rattle.backward.proofs.Reached.{rowsIn, lastOf, Reached, Stopped, reached-none, reached-within, child-room, child-free, reached-more, reached-key, stopped-start, stopped-missing}
-use Rattle.backward.proofs.Visits.{Running, first-room, running-none, running-few, running-length, running-all, running-more, window-closing, window-moving, window-some}
+use Rattle.backward.proofs.Visits.{Underway, first-room, underway-none, underway-few, underway-length, underway-all, underway-more, window-closing, window-moving, window-some}
 use Rattle.backward.proofs.run.Statement.{statement}
 use Rattle.backward.proofs.run.Tie as tie
 
@@ -28,7 +28,7 @@ abbrev μ-bytes : tie.MeasureT-bytes
 
 abbrev Inv-loop : tie.InvT-loop
 Inv-loop ws words trace row-file byte-file hits₀ tally₀ questions₀ keys₀ end₀ hits tally questions keys end =
-    Running words trace row-file byte-file hits₀ hits tally questions keys end
+    Underway words trace row-file byte-file hits₀ hits tally questions keys end
 
 abbrev μ-loop : tie.MeasureT-loop
 μ-loop ws words trace row-file byte-file hits₀ tally₀ questions₀ keys₀ end₀ hits tally questions keys end =
@@ -47,7 +47,7 @@ wide-requires c κs = search needs
 loop-holds : tie.Need-loop-holds Inv-bytes μ-bytes Inv-loop μ-loop
 loop-holds c =
     let e = c .before .before .before .before .before .before .before .before .before in
-    running-none (e .pre) (now (e .args .hits)) (c .before .before .nothing .result) _ (c .wide .result)
+    underway-none (e .pre) (now (e .args .hits)) (c .before .before .nothing .result) _ (c .wide .result)
     (c .before .before .nothing .ensures (now (e .args .hits)))
     refl
     (c .wide .ensures .0)
@@ -64,7 +64,7 @@ bytes-holds c =
     reached-none (now (a .words)) (now (a .trace)) (c .before .loop .end) (c .before .loop .questions)
     (c .before .loop .keys)
     (c .before .loop .inv .long)
-    (running-few (safe (c .before)) (c .before .loop .inv))
+    (underway-few (safe (c .before)) (c .before .loop .inv))
 
 sub-wide : tie.Need-sub-wide Inv-bytes μ-bytes Inv-loop μ-loop
 sub-wide c = omega arith
@@ -231,15 +231,15 @@ loop-again c =
     let j = c .before .before .before .before .before in
     let l = j .before .before .before in
     let inside = j .before .before .loop-test .taken in
-    running-more (safe l) (l .loop .inv) inside (stopped j) (c .move-on .result) (c .move-on .ensures .0)
+    underway-more (safe l) (l .loop .inv) inside (stopped j) (c .move-on .result) (c .move-on .ensures .0)
     (c .before .before .before .list-window .ensures (l .loop .inv .done) _
     (window-closing (safe l) (l .loop .inv) inside (stopped j)))
 
 same-length : tie.Need-same-length Inv-bytes μ-bytes Inv-loop μ-loop
-same-length c = running-length (safe (c .before)) (c .before .loop .inv)
+same-length c = underway-length (safe (c .before)) (c .before .loop .inv)
 
 returns : tie.Need-returns Inv-bytes μ-bytes Inv-loop μ-loop
-returns c = running-all (safe (c .before)) (c .before .loop .inv) (c .loop-test .left)
+returns c = underway-all (safe (c .before)) (c .before .loop .inv) (c .loop-test .left)
 
 pub run-spec : {M : Type 1} → statement M
 run-spec =

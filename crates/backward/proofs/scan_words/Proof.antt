@@ -6,16 +6,16 @@ use mathlib.Core.List.{List}
 use lib.ListN.{length}
 use denote.Ref.{now}
 use borrow.Author.Needs.{needs}
-use Rattle.rules.specs.Limits.{opcodes}
-use Rattle.rules.specs.Sets.{Keyword}
-use Rattle.rules.specs.Rows.{backward, rowsOf}
-use Rattle.rules.specs.Refusals.{Verdict, pass, entryVerdict, tableVerdict}
-use Rattle.rules.specs.Answers.{toldCount, toldCounted}
-use Rattle.rules.specs.Promises.{answerOr, rowsTold}
-use Rattle.rules.proofs.Bytes.{mem-below}
-use Rattle.rules.proofs.Refused.{numbered-entry, numbered-table}
-use Rattle.rules.proofs.Counts.{counted-number, counted-refused}
-use Rattle.words.specs.Entries.{keywordsIn}
+use Rattle.rules.specs.sets.Limits.{opcodes}
+use Rattle.rules.specs.sets.Sets.{Keyword}
+use Rattle.rules.specs.rows.Rows.{backward, rowsOf}
+use Rattle.rules.specs.answers.Refusals.{Verdict, pass, entryVerdict, tableVerdict}
+use Rattle.rules.specs.answers.Answers.{toldCount, toldCounted}
+use Rattle.rules.specs.answers.Promises.{answerOr, rowsTold}
+use Rattle.rules.proofs.sets.Bytes.{mem-below}
+use Rattle.rules.proofs.answers.Refused.{numbered-entry, numbered-table}
+use Rattle.rules.proofs.answers.Counts.{counted-number, counted-refused}
+use Rattle.words.specs.Items.{keywordsIn}
 use Rattle.words.specs.Read.{wayOf}
 use Rattle.rows.proofs.Entering.{Entry, entry-passed}
 use Rattle.backward.specs.Windowed.{Safe}

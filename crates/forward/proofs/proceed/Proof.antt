@@ -6,7 +6,7 @@ use mathlib.Core.List.{List, _++_}
 use lib.ListN.{length, take}
 use lib.Seq.{take-all}
 use denote.Ref.{now}
-use Rattle.words.specs.Entries.{keywordsIn}
+use Rattle.words.specs.Items.{keywordsIn}
 use Rattle.forward.specs.Progress.{Scanning, Going}
 use Rattle.forward.proofs.States.{bytes-none, bytes-going, bytes-more}
 use Rattle.forward.proofs.proceed.Statement.{statement}

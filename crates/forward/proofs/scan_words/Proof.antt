@@ -6,13 +6,13 @@ use mathlib.Core.List.{[]}
 use lib.ListN.{length}
 use denote.Ref.{now}
 use borrow.Author.Needs.{needs}
-use Rattle.rules.specs.Rows.{forward, rowsOf}
-use Rattle.rules.specs.Refusals.{Verdict, pass, entryVerdict}
-use Rattle.rules.specs.Answers.{toldCount, toldCounted}
-use Rattle.rules.specs.Promises.{answerOr}
-use Rattle.rules.proofs.Refused.{numbered-entry}
-use Rattle.rules.proofs.Counts.{counted-number, counted-refused}
-use Rattle.words.specs.Entries.{keywordsIn}
+use Rattle.rules.specs.rows.Rows.{forward, rowsOf}
+use Rattle.rules.specs.answers.Refusals.{Verdict, pass, entryVerdict}
+use Rattle.rules.specs.answers.Answers.{toldCount, toldCounted}
+use Rattle.rules.specs.answers.Promises.{answerOr}
+use Rattle.rules.proofs.answers.Refused.{numbered-entry}
+use Rattle.rules.proofs.answers.Counts.{counted-number, counted-refused}
+use Rattle.words.specs.Items.{keywordsIn}
 use Rattle.words.specs.Read.{wayOf}
 use Rattle.rows.proofs.Entering.{Entry, entry-passed}
 use Rattle.forward.specs.Progress.{Scanning, Going}

@@ -3,7 +3,7 @@ use native.Mathlib.Omega.{arith}
 use mathlib.Core.List.{[]}
 use lib.ListN.{getD}
 use denote.Ref.{now}
-use Rattle.rules.specs.Limits.{longestWord}
+use Rattle.rules.specs.sets.Limits.{longestWord}
 use Rattle.rows.specs.Falls.{Moved}
 use Rattle.forward.proofs.States.{rowsIn, state-ready, step-few, step-ending, step-read}
 use Rattle.forward.proofs.step.Statement.{statement}

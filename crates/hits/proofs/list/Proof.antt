@@ -6,8 +6,8 @@ use mathlib.Core.Logic.{⊎-elim}
 use lib.ListN.{length, length-set}
 use denote.Ref.{now}
 use borrow.Author.Needs.{needs}
-use Rattle.rules.specs.Hits.{Hit}
-use Rattle.words.specs.Entries.{keywordsIn}
+use Rattle.rules.specs.scans.Hits.{Hit}
+use Rattle.words.specs.Items.{keywordsIn}
 use Rattle.hits.specs.Tallies.{hitOf}
 use Rattle.hits.proofs.Tallying.{hitting-named, hitting-small, hitting-figure, hitting-charged, tallied-more, tallied-full}
 use Rattle.hits.proofs.list.Statement.{statement}

@@ -1,4 +1,5 @@
--- The forward scan runs in a workspace that is always enough, so its answer is the host call's, and that is what is written.
+-- The forward scan runs in a workspace that is always enough, so its answer is the host call's, and that is what is
+-- written.
 use native.Mathlib.Omega.{arith}
 use denote.Ref.{now}
 use Rattle.host.specs.Calls.{toldOf}

@@ -1,4 +1,5 @@
--- A short answer is refused before anything is touched; else the forward scan's promise holds, and its answer is what is written.
+-- A short answer is refused before anything is touched; else the forward scan's promise holds, and its answer is what
+-- is written.
 use denote.Ref.{now}
 use Rattle.host.specs.Calls.{toldOf}
 use Rattle.host.proofs.Telling.{forward-short, forward-called}

@@ -1,6 +1,6 @@
 -- Keywords that passed are some, so there is a first one.
 use borrow.Author.Needs.{needs}
-use Rattle.words.proofs.Entries.{has-at}
+use Rattle.words.proofs.Items.{has-at}
 use Rattle.limits.proofs.energy.Statement.{statement}
 use Rattle.limits.proofs.energy.Tie as tie
 

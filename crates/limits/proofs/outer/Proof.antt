@@ -1,11 +1,11 @@
 -- Keywords that passed are some, so there is a first one, and it is not empty.
 use native.Mathlib.Omega.{arith}
 use borrow.Author.Needs.{needs}
-use Rattle.rules.specs.Sound.{noKeyword}
-use Rattle.rules.proofs.Orders.{getD-mem}
-use Rattle.words.proofs.Entries.{has-at}
+use Rattle.rules.proofs.strings.Orders.{getD-mem}
+use Rattle.words.proofs.Items.{has-at}
 use Rattle.limits.proofs.outer.Statement.{statement}
 use Rattle.limits.proofs.outer.Tie as tie
+use Rattle.rules.specs.Beside.{noKeyword}
 
 length-of-requires : tie.Need-length-of-requires
 length-of-requires c κs = has-at (c .before .pre .0) (c .before .pre .1 .some)

@@ -3,8 +3,8 @@ use mathlib.Core.Path.{_≡_, ap}
 use lib.ListN.{length}
 use denote.Ref.{now}
 use borrow.Author.Needs.{needs}
-use Rattle.rules.specs.Rows.{Way, forward, backward, rowsOf}
-use Rattle.words.specs.Entries.{keywordsIn}
+use Rattle.rules.specs.rows.Rows.{Way, forward, backward, rowsOf}
+use Rattle.words.specs.Items.{keywordsIn}
 use Rattle.words.specs.Read.{wayOf}
 use Rattle.rows.specs.Builds.{Built}
 use Rattle.rows.proofs.Columns.{beyond-trans}

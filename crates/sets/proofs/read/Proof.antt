@@ -1,14 +1,15 @@
--- The records before the one at hand passed and their keywords are kept, so the first fault of the next one is the file's.
+-- The records before the one at hand passed and their keywords are kept, so the first fault of the next one is the
+-- file's.
 use Prim.Native.Nat.{_+_, _-_, _/_, _≤_}
 use mathlib.Core.Path.{_≡_, refl, sym, _∙_, ap}
 use lib.ListN.{length}
 use native.Mathlib.Omega.{arith}
 use denote.Ref.{now}
 use borrow.Author.Needs.{needs}
-use Rattle.rules.specs.Limits.{recordSize}
-use Rattle.rules.specs.Answers.{toldCount, toldCounted}
-use Rattle.rules.proofs.Refused.{numbered-record}
-use Rattle.rules.proofs.Counts.{counted-number, counted-refused}
+use Rattle.rules.specs.sets.Limits.{recordSize}
+use Rattle.rules.specs.answers.Answers.{toldCount, toldCounted}
+use Rattle.rules.proofs.answers.Refused.{numbered-record}
+use Rattle.rules.proofs.answers.Counts.{counted-number, counted-refused}
 use Rattle.sets.proofs.Files.{Records, records-none, records-more, read-empty, read-size, read-many, read-fault, read-all}
 use Rattle.sets.proofs.read.Statement.{statement}
 use Rattle.sets.proofs.read.Tie as tie

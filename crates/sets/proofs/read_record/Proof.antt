@@ -1,12 +1,12 @@
--- Each way out is the first test of the record that shows a fault, and the last where none does: then its keyword is kept.
+-- Each way out is the first test of the record that shows a fault, and the last where none does: then its keyword is
+-- kept.
 use Prim.Native.Nat.{_+_, _*_, _≤_}
 use mathlib.Core.Path.{sym, _∙_}
 use lib.ListN.{length}
 use lib.Seq.{length-take-le}
 use native.Mathlib.Omega.{arith}
 use denote.Ref.{now}
-use Rattle.rules.specs.Sets.{keywordAt}
-use Rattle.words.specs.Entries.{entrySize, Stored}
+use Rattle.words.specs.Items.{itemSize, Stored}
 use Rattle.sets.specs.Reading.{Reading}
 use Rattle.sets.proofs.Judged.{judged-empty, judged-long, judged-padding, judged-repeated, judged-pass}
 use Rattle.sets.proofs.Keeping.{kept-begins, kept-has, kept-repeated}
@@ -14,6 +14,7 @@ use Rattle.sets.proofs.Files.{record-refused, record-kept}
 use borrow.Author.Needs.{needs}
 use Rattle.sets.proofs.read_record.Statement.{statement}
 use Rattle.sets.proofs.read_record.Tie as tie
+use Rattle.rules.specs.Beside.{keywordAt}
 
 -- what was known before the record, and that its keyword is stored
 reading : (c : tie.After-put)
@@ -29,7 +30,7 @@ stored c = rw (c .before .word .ensures .0) at (c .put .ensures .1)
 -- it is as long as it was
 sized : (c : tie.After-put)
     → let a = c .before .before .before .before .before .before .before .before .before .before .args in
-    entrySize * (a .i + 1) ≤ length (c .put .last .0)
+    itemSize * (a .i + 1) ≤ length (c .put .last .0)
 sized c = omega (arith, reading c .few, reading c .room, c .put .kept .0)
 
 cast-record : tie.Need-cast-record

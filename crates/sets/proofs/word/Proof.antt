@@ -3,21 +3,22 @@ use Prim.Native.Nat.{_+_, _-_, _*_}
 use mathlib.Core.Path.{sym}
 use native.Mathlib.Omega.{arith}
 use denote.Ref.{now}
-use Rattle.rules.specs.Limits.{recordSize}
-use Rattle.rules.specs.Sets.{keywordOf, keywordAt}
+use Rattle.rules.specs.sets.Limits.{recordSize}
+use Rattle.rules.specs.sets.Sets.{keywordOf}
+use Rattle.rules.specs.Beside.{keywordAt}
 use Rattle.sets.proofs.Records.{word-length, word-at}
-use Rattle.sets.proofs.Filled.{Filled, filled-none, filled-more, filled-all}
+use Rattle.sets.proofs.Gathered.{Gathered, gathered-none, gathered-more, gathered-all}
 use Rattle.sets.proofs.word.Statement.{statement}
 use Rattle.sets.proofs.word.Tie as tie
 
 abbrev Inv-loop : tie.InvT-loop
-Inv-loop set i n units₀ k₀ units k = Filled (keywordAt set i .word) units k
+Inv-loop set i n units₀ k₀ units k = Gathered (keywordAt set i .word) units k
 
 abbrev μ-loop : tie.MeasureT-loop
 μ-loop set i n units₀ k₀ units k = n - k
 
 loop-holds : tie.Need-loop-holds Inv-loop μ-loop
-loop-holds c = let p = c .before .pre .0 in filled-none _ (omega (arith, word-length _ _ _ p, p .short))
+loop-holds c = let p = c .before .pre .0 in gathered-none _ (omega (arith, word-length _ _ _ p, p .short))
 
 mul-units : tie.Need-mul-units Inv-loop μ-loop
 mul-units c = omega (arith, c .before .before .before .pre .0)
@@ -51,7 +52,7 @@ loop-again c =
     let d = c .before .before .before .before in
     let p = d .pre .0 in
     let k = c .before .before .loop .k in
-    filled-more (c .before .before .loop .inv) _ (sym (word-at (now (d .args .set)) (d .args .i) (d .args .n) p k (c .before .loop-test .taken)))
+    gathered-more (c .before .before .loop .inv) _ (sym (word-at (now (d .args .set)) (d .args .i) (d .args .n) p k (c .before .loop-test .taken)))
     (omega (arith, word-length (now (d .args .set)) (d .args .i) (d .args .n) p))
 
 cast-t16 : tie.Need-cast-t16 Inv-loop μ-loop
@@ -66,7 +67,7 @@ returns c =
     let d = c .before .before .before .before in
     let p = d .pre .0 in
     let long = word-length (now (d .args .set)) (d .args .i) (d .args .n) p in
-    let word = filled-all (c .before .before .loop .inv) (sym long) (c .before .loop-test .left) in
+    let word = gathered-all (c .before .before .loop .inv) (sym long) (c .before .loop-test .left) in
     (rw (word, c .energy .ensures), p .short)
 
 pub word-spec : {M : Type 1} → statement M

@@ -3,12 +3,12 @@ use mathlib.Core.Path.{_≡_, sym, _∙_, ap}
 use lib.ListN.{length}
 use denote.Ref.{now}
 use Rattle.rules.specs.declared.Counted.{Counted}
-use Rattle.rules.specs.Rows.{backward, rowsOf}
-use Rattle.rules.specs.Refusals.{entryVerdict}
-use Rattle.rules.specs.Answers.{toldCount, toldCounted}
-use Rattle.rules.specs.Promises.{answerOr}
+use Rattle.rules.specs.rows.Rows.{backward, rowsOf}
+use Rattle.rules.specs.answers.Refusals.{entryVerdict}
+use Rattle.rules.specs.answers.Answers.{toldCount, toldCounted}
+use Rattle.rules.specs.answers.Promises.{answerOr}
 use Rattle.words.specs.Read.{wayOf}
-use Rattle.words.specs.Entries.{keywordsIn}
+use Rattle.words.specs.Items.{keywordsIn}
 use Rattle.skips.proofs.Outcomes.{begun-refused, begun-room, begun-rows}
 use borrow.Author.Needs.{needs}
 use Rattle.skips.proofs.begin.Statement.{statement}

@@ -1,7 +1,7 @@
 -- The first tests decide, and where they pass the table's own.
 use denote.Ref.{now}
 use Rattle.rules.specs.declared.Counted.{Counted}
-use Rattle.words.specs.Entries.{keywordsIn}
+use Rattle.words.specs.Items.{keywordsIn}
 use Rattle.skips.specs.Beginning.{Begun}
 use Rattle.skips.proofs.Outcomes.{begun-passed, check-entry, check-judged}
 use borrow.Author.Needs.{needs}

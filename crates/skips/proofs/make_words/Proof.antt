@@ -1,7 +1,7 @@
 -- Each way out is a line of the table, and past the last of them both files fit at the fronts of their buffers.
 use denote.Ref.{now}
 use Rattle.rules.specs.declared.Counted.{Counted}
-use Rattle.words.specs.Entries.{keywordsIn}
+use Rattle.words.specs.Items.{keywordsIn}
 use Rattle.skips.specs.Beginning.{Begun}
 use Rattle.skips.proofs.Outcomes.{begun-passed, make-entry, make-rows-short, make-bytes-short, make-done}
 use borrow.Author.Needs.{needs}

@@ -2,7 +2,7 @@
 use Prim.Native.Nat.{_-_}
 use native.Mathlib.Omega.{arith}
 use Rattle.words.proofs.Compared.{Matched, matched-none, matched-stop, matched-more, matched-all}
-use Rattle.words.proofs.Entries.{word-short, alike-parts}
+use Rattle.words.proofs.Items.{word-short, alike-parts}
 use Rattle.words.proofs.alike.Statement.{statement}
 use Rattle.words.proofs.alike.Tie as tie
 

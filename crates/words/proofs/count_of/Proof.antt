@@ -1,7 +1,7 @@
 -- Each keyword takes as many numbers as any other, so the list has as many as its length says.
 use mathlib.Core.Path.{sym}
 use denote.Ref.{now}
-use Rattle.words.proofs.Entries.{length-keywordsIn}
+use Rattle.words.proofs.Items.{length-keywordsIn}
 use Rattle.words.proofs.count_of.Statement.{statement}
 use Rattle.words.proofs.count_of.Tie as tie
 

@@ -5,11 +5,11 @@ use lib.ListN.{length, take}
 use lib.Seq.{take-all}
 use denote.Ref.{now}
 use native.Mathlib.Omega.{arith}
-use Rattle.rules.specs.Limits.{longestWord}
-use Rattle.rules.specs.Rows.{rowsOf}
-use Rattle.words.specs.Entries.{Has, keywordsIn}
+use Rattle.rules.specs.sets.Limits.{longestWord}
+use Rattle.rules.specs.rows.Rows.{rowsOf}
+use Rattle.words.specs.Items.{Has, keywordsIn}
 use Rattle.words.specs.Read.{wayOf}
-use Rattle.words.proofs.Entries.{has-at, read-length}
+use Rattle.words.proofs.Items.{has-at, read-length}
 use Rattle.words.proofs.Counted.{rows-none, rows-more, most-within}
 use borrow.Author.Needs.{needs}
 use Rattle.words.proofs.count_rows.Statement.{statement}

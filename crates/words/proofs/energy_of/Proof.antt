@@ -1,6 +1,6 @@
 -- The energy is the last two of a keyword's numbers, the low half first.
 use native.Mathlib.Omega.{arith}
-use Rattle.words.proofs.Entries.{energy-at}
+use Rattle.words.proofs.Items.{energy-at}
 use borrow.Author.Needs.{needs}
 use Rattle.words.proofs.energy_of.Statement.{statement}
 use Rattle.words.proofs.energy_of.Tie as tie

@@ -1,7 +1,7 @@
 -- The length is the second of a keyword's numbers, and at most fifteen.
 use mathlib.Core.Path.{sym, _∙_}
 use native.Mathlib.Omega.{arith}
-use Rattle.words.proofs.Entries.{word-length, has-short}
+use Rattle.words.proofs.Items.{word-length, has-short}
 use borrow.Author.Needs.{needs}
 use Rattle.words.proofs.length_of.Statement.{statement}
 use Rattle.words.proofs.length_of.Tie as tie

@@ -4,13 +4,13 @@ use mathlib.Core.Path.{_≡_}
 use mathlib.Core.Logic.{⊎-elim}
 use denote.Ref.{now}
 use native.Mathlib.Omega.{arith}
-use Rattle.rules.specs.Strings.{mostCommon}
-use Rattle.words.specs.Entries.{keywordsIn}
+use Rattle.words.specs.Items.{keywordsIn}
 use Rattle.words.specs.Read.{wayOf, readAt, earlier}
-use Rattle.words.proofs.Entries.{has-at}
+use Rattle.words.proofs.Items.{has-at}
 use Rattle.words.proofs.Counted.{most-none, most-more}
 use Rattle.words.proofs.most_shared.Statement.{statement}
 use Rattle.words.proofs.most_shared.Tie as tie
+use Rattle.rules.specs.Beside.{mostCommon}
 
 abbrev Inv-loop : tie.InvT-loop
 Inv-loop words i way most₀ j₀ most j = (j ≤ i) × (most ≡ mostCommon (earlier (wayOf way) (keywordsIn words) j) (readAt (wayOf way) (keywordsIn words) i))

@@ -1,6 +1,6 @@
 -- The number is the first of a keyword's.
 use mathlib.Core.Path.{sym, _∙_}
-use Rattle.words.proofs.Entries.{number-at}
+use Rattle.words.proofs.Items.{number-at}
 use borrow.Author.Needs.{needs}
 use Rattle.words.proofs.number_of.Statement.{statement}
 use Rattle.words.proofs.number_of.Tie as tie

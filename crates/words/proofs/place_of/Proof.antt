@@ -6,11 +6,11 @@ use lib.ListN.{length}
 use denote.Ref.{now}
 use native.Mathlib.Omega.{arith}
 use native.Mathlib.Numerals.{lt-of-le-of-ne}
-use Rattle.rules.specs.Sets.{Keyword}
-use Rattle.rules.specs.Sound.{noKeyword, nth}
-use Rattle.words.specs.Entries.{keywordsIn}
-use Rattle.rules.proofs.Orders.{mem-at}
-use Rattle.words.proofs.Entries.{has-at}
+use Rattle.rules.specs.sets.Sets.{Keyword}
+use Rattle.rules.specs.Beside.{noKeyword, nth}
+use Rattle.words.specs.Items.{keywordsIn}
+use Rattle.rules.proofs.strings.Orders.{mem-at}
+use Rattle.words.proofs.Items.{has-at}
 use Rattle.words.proofs.Places.{place-below, place-names}
 use borrow.Author.Needs.{needs}
 use Rattle.words.proofs.place_of.Statement.{statement}

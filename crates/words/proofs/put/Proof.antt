@@ -3,7 +3,7 @@ use mathlib.Core.Path.{_≡_, _∙_}
 use native.Mathlib.Omega.{arith}
 use lib.ListN.{length, length-set}
 use denote.Ref.{now}
-use Rattle.words.specs.Entries.{stored}
+use Rattle.words.specs.Items.{stored}
 use Rattle.words.proofs.Storing.{written, written-is}
 use borrow.Author.Needs.{needs}
 use Rattle.words.proofs.put.Statement.{statement}

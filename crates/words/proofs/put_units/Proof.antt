@@ -3,7 +3,7 @@ use Prim.Native.Nat.{_-_}
 use native.Mathlib.Omega.{arith}
 use mathlib.Core.Path.{_≡_}
 use lib.ListN.{length}
-use Rattle.rules.specs.Limits.{longestWord}
+use Rattle.rules.specs.sets.Limits.{longestWord}
 use Rattle.words.proofs.Storing.{Copied, copied-none, copied-length, copied-more}
 use Rattle.words.proofs.put_units.Statement.{statement}
 use Rattle.words.proofs.put_units.Tie as tie

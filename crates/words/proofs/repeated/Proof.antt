@@ -1,14 +1,15 @@
--- No keyword passed has the units of the one at place i, so one that has them decides, and none does where all were passed.
+-- No keyword passed has the units of the one at place i, so one that has them decides, and none does where all were
+-- passed.
 use Prim.Native.Nat.{_-_, _≤_}
 use mathlib.Core.Path.{_≡_, sym, _∙_}
 use mathlib.Core.Bool.{false}
 use denote.Ref.{now}
 use lib.ListN.{take}
 use native.Mathlib.Omega.{arith}
-use Rattle.rules.specs.Sets.{isKeyword}
-use Rattle.rules.specs.Sound.{nth}
-use Rattle.words.specs.Entries.{keywordsIn}
-use Rattle.words.proofs.Entries.{has-at}
+use Rattle.rules.specs.sets.Sets.{isKeyword}
+use Rattle.rules.specs.Beside.{nth}
+use Rattle.words.specs.Items.{keywordsIn}
+use Rattle.words.proofs.Items.{has-at}
 use Rattle.words.proofs.Counted.{new-none, new-more, old-once}
 use Rattle.words.proofs.repeated.Statement.{statement}
 use Rattle.words.proofs.repeated.Tie as tie

@@ -5,8 +5,8 @@ use mathlib.Core.List.{List}
 use lib.ListN.{length, take}
 use lib.Seq.{take-all}
 use native.Mathlib.Omega.{arith}
-use Rattle.rules.specs.Strings.{same}
-use Rattle.rules.proofs.Common.{same-unlike}
+use Rattle.rules.specs.strings.Strings.{same}
+use Rattle.rules.proofs.rows.Common.{same-unlike}
 use borrow.Author.Needs.{needs}
 use Rattle.words.proofs.same_word.Statement.{statement}
 use Rattle.words.proofs.same_word.Tie as tie

@@ -3,9 +3,9 @@ use Prim.Native.Nat.{_-_}
 use mathlib.Core.Path.{_≡_, sym, _∙_}
 use lib.ListN.{length}
 use native.Mathlib.Omega.{arith}
-use Rattle.words.specs.Entries.{keywordsIn}
+use Rattle.words.specs.Items.{keywordsIn}
 use Rattle.words.specs.Read.{wayOf, readAt}
-use Rattle.words.proofs.Entries.{read-length}
+use Rattle.words.proofs.Items.{read-length}
 use Rattle.words.proofs.Compared.{Agreed, agreed-none, agreed-left, agreed-right, agreed-stop, agreed-more}
 use Rattle.words.proofs.shared.Statement.{statement}
 use Rattle.words.proofs.shared.Tie as tie

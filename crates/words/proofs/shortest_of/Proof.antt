@@ -6,9 +6,9 @@ use lib.ListN.{take}
 use lib.Seq.{take-all}
 use denote.Ref.{now}
 use native.Mathlib.Omega.{arith}
-use Rattle.rules.specs.Sets.{shortest}
-use Rattle.words.specs.Entries.{keywordsIn}
-use Rattle.words.proofs.Entries.{has-at}
+use Rattle.rules.specs.sets.Sets.{shortest}
+use Rattle.words.specs.Items.{keywordsIn}
+use Rattle.words.proofs.Items.{has-at}
 use Rattle.words.proofs.Counted.{least-one, least-more}
 use borrow.Author.Needs.{needs}
 use Rattle.words.proofs.shortest_of.Statement.{statement}

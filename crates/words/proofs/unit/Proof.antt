@@ -2,7 +2,7 @@
 use mathlib.Core.Path.{sym}
 use native.Mathlib.Omega.{arith}
 use Rattle.words.specs.Read.{wayOf}
-use Rattle.words.proofs.Entries.{word-short, read-forward, read-backward}
+use Rattle.words.proofs.Items.{word-short, read-forward, read-backward}
 use borrow.Author.Needs.{needs}
 use Rattle.words.proofs.unit.Statement.{statement}
 use Rattle.words.proofs.unit.Tie as tie

@@ -1,7 +1,7 @@
 -- Each arm has its variant's constructor, at which `toldCounted` computes.
 use mathlib.Core.Path.{sym, _∙_, ap}
 use borrow.Author.Needs.{needs}
-use Rattle.rules.specs.Answers.{toldCounted}
+use Rattle.rules.specs.answers.Answers.{toldCounted}
 use Rattle.host.proofs.answer.from_counted.Statement.{statement}
 use Rattle.host.proofs.answer.from_counted.Tie as tie
 

@@ -1,7 +1,7 @@
 -- Each arm has its variant's constructor, at which `told` computes.
 use mathlib.Core.Path.{sym, _∙_, ap}
 use borrow.Author.Needs.{needs}
-use Rattle.rules.specs.Answers.{told}
+use Rattle.rules.specs.answers.Answers.{told}
 use Rattle.host.proofs.answer.from_scanned.Statement.{statement}
 use Rattle.host.proofs.answer.from_scanned.Tie as tie
 

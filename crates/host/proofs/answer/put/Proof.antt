@@ -4,7 +4,7 @@ use native.Mathlib.Omega.{arith}
 use mathlib.Core.Path.{_≡_, refl}
 use lib.ListN.{length, length-set}
 use lib.Seq.{sets}
-use Rattle.rules.specs.Answers.{lowFirst}
+use Rattle.rules.specs.answers.Answers.{lowFirst}
 use Rattle.host.proofs.Digits.{Putting, putting-none, putting-more, putting-all}
 use Rattle.host.proofs.answer.put.Statement.{statement}
 use Rattle.host.proofs.answer.put.Tie as tie

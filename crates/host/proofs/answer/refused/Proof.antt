@@ -1,7 +1,7 @@
 -- `number_of` and `place_of` give the refusal's number and place, and the other three are zero.
 use mathlib.Core.Path.{ap₂}
 use borrow.Author.Needs.{needs}
-use Rattle.rules.specs.Answers.{toldRefusal}
+use Rattle.rules.specs.answers.Answers.{toldRefusal}
 use Rattle.host.proofs.answer.refused.Statement.{statement}
 use Rattle.host.proofs.answer.refused.Tie as tie
 

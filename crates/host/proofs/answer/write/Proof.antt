@@ -4,7 +4,7 @@ use mathlib.Core.Path.{_∙_, ap}
 use mathlib.Core.List.{List}
 use lib.Seq.{sets}
 use borrow.Author.Needs.{needs}
-use Rattle.rules.specs.Answers.{lowFirst}
+use Rattle.rules.specs.answers.Answers.{lowFirst}
 use Rattle.host.specs.Calls.{toldOf}
 use Rattle.host.proofs.Digits.{put-all}
 use Rattle.host.proofs.answer.write.Statement.{statement}

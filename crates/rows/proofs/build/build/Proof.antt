@@ -5,9 +5,9 @@ use mathlib.Core.Path.{_∙_}
 use lib.ListN.{length, take, length-set}
 use denote.Ref.{now}
 use borrow.Author.Needs.{needs}
-use Rattle.rules.specs.Limits.{rowCells}
-use Rattle.rules.proofs.Rows.{rowed-rows}
-use Rattle.words.specs.Entries.{keywordsIn}
+use Rattle.rules.specs.sets.Limits.{rowCells}
+use Rattle.rules.proofs.rows.Rows.{rowed-rows}
+use Rattle.words.specs.Items.{keywordsIn}
 use Rattle.words.specs.Read.{wayOf}
 use Rattle.rows.specs.Builds.{Built}
 use Rattle.rows.proofs.Building.{built-root, built-here, built-inserting, built-more, built-all}

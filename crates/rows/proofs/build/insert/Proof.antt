@@ -6,14 +6,14 @@ use mathlib.Core.Logic.{⊎-elim}
 use mathlib.Core.List.{List, []}
 use lib.ListN.{length, getD, take, length-set}
 use denote.Ref.{now}
-use Rattle.rules.specs.Limits.{mostKeywords, mostRows, rowCells}
-use Rattle.rules.specs.Sets.{Keyword}
-use Rattle.rules.specs.Rows.{Way}
-use Rattle.rules.specs.Sound.{noKeyword, nth}
-use Rattle.rules.proofs.Orders.{getD-mem}
-use Rattle.words.specs.Entries.{Has, keywordsIn}
+use Rattle.rules.specs.sets.Limits.{mostKeywords, mostRows, rowCells}
+use Rattle.rules.specs.sets.Sets.{Keyword}
+use Rattle.rules.specs.rows.Rows.{Way}
+use Rattle.rules.specs.Beside.{noKeyword, nth}
+use Rattle.rules.proofs.strings.Orders.{getD-mem}
+use Rattle.words.specs.Items.{Has, keywordsIn}
 use Rattle.words.specs.Read.{wayOf, readAt}
-use Rattle.words.proofs.Entries.{has-at, read-length}
+use Rattle.words.proofs.Items.{has-at, read-length}
 use Rattle.rows.specs.Tree.{Answered, appended}
 use Rattle.rows.proofs.Appended.{Growing, growing-last}
 use Rattle.rows.proofs.Spelling.{met, Spelled, spelled-none, spelled-within, spelled-few, spelled-room, spelled-old, spelled-growing, spelled-new, spelled-all}

@@ -1,8 +1,8 @@
 -- The tests are made in the order of the table, and each return has the verdict of the first that shows a fault.
 use mathlib.Core.Path.{_∙_, ap}
 use borrow.Author.Needs.{needs}
-use Rattle.rules.specs.Answers.{toldCount}
-use Rattle.rules.proofs.Counts.{answer-refused, answer-passed}
+use Rattle.rules.specs.answers.Answers.{toldCount}
+use Rattle.rules.proofs.answers.Counts.{answer-refused, answer-passed}
 use Rattle.rows.proofs.Entering.{entry-rows, entry-trace, entry-room, entry-pass}
 use Rattle.rows.proofs.entry.enter.Statement.{statement}
 use Rattle.rows.proofs.entry.enter.Tie as tie

@@ -1,8 +1,9 @@
--- Wherever the chain of failures stands, it leads on to the same row, and each question has taken a byte, of which there are few.
+-- Wherever the chain of failures stands, it leads on to the same row, and each question has taken a byte, of which
+-- there are few.
 use Prim.Native.Nat.{ℕ, _+_, _-_}
 use native.Mathlib.Omega.{arith}
 use mathlib.Core.List.{List}
-use Rattle.rules.specs.Limits.{longestWord}
+use Rattle.rules.specs.sets.Limits.{longestWord}
 use Rattle.rows.specs.Falls.{Ready}
 use Rattle.rows.proofs.Chain.{Falling, falling-none, falling-more, falling-child, falling-root}
 use Rattle.rows.proofs.failures.advance.Statement.{statement}

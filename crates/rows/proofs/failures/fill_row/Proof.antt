@@ -6,10 +6,10 @@ use mathlib.Core.Logic.{⊎-elim}
 use mathlib.Core.List.{List}
 use lib.ListN.{length, length-set}
 use denote.Ref.{now}
-use Rattle.rules.specs.Limits.{rowCells}
-use Rattle.rules.specs.Sets.{Keyword}
-use Rattle.rules.specs.Rows.{forward, rowsOf}
-use Rattle.rules.proofs.Rows.{rows-few}
+use Rattle.rules.specs.sets.Limits.{rowCells}
+use Rattle.rules.specs.sets.Sets.{Keyword}
+use Rattle.rules.specs.rows.Rows.{forward, rowsOf}
+use Rattle.rules.proofs.rows.Rows.{rows-few}
 use Rattle.rows.specs.Falls.{Fillable}
 use Rattle.rows.proofs.Behind.{childRow, failRow, dictRow, up-ready, fails-root, fails-up, fail-within, dict-keyed, dict-unkeyed, dict-within, child-within, filled}
 use borrow.Author.Needs.{needs}

@@ -3,8 +3,8 @@ use Prim.Native.Nat.{_≤_, _-_}
 use native.Mathlib.Omega.{arith}
 use mathlib.Core.Path.{_≡_}
 use lib.ListN.{getD-replicate}
-use Rattle.rules.specs.Limits.{longestWord, mostKeywords}
-use Rattle.words.specs.Entries.{keywordsIn}
+use Rattle.rules.specs.sets.Limits.{longestWord, mostKeywords}
+use Rattle.words.specs.Items.{keywordsIn}
 use Rattle.rows.specs.Levels.{Levelled}
 use Rattle.rows.proofs.Depth.{levelled-none, levelled-more}
 use Rattle.rows.proofs.levels.fill.Statement.{statement}

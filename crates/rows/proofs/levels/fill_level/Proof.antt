@@ -7,14 +7,14 @@ use mathlib.Core.List.{List}
 use lib.ListN.{length, getD, set, length-map}
 use denote.Ref.{now}
 use borrow.Author.Needs.{needs}
-use Rattle.rules.specs.Limits.{mostKeywords}
-use Rattle.rules.specs.Sets.{Keyword}
-use Rattle.rules.specs.Rows.{forward, readBy}
-use Rattle.rules.specs.Sound.{nth}
-use Rattle.rules.proofs.Rows.{rows-few}
-use Rattle.words.specs.Entries.{Has, keywordsIn}
+use Rattle.rules.specs.sets.Limits.{mostKeywords}
+use Rattle.rules.specs.sets.Sets.{Keyword}
+use Rattle.rules.specs.rows.Rows.{forward, readBy}
+use Rattle.rules.specs.Beside.{nth}
+use Rattle.rules.proofs.rows.Rows.{rows-few}
+use Rattle.words.specs.Items.{Has, keywordsIn}
 use Rattle.words.specs.Read.{wayOf, readAt}
-use Rattle.words.proofs.Entries.{has-at}
+use Rattle.words.proofs.Items.{has-at}
 use Rattle.rows.specs.Falls.{Fillable, Filled}
 use Rattle.rows.proofs.Behind.{child-within}
 use Rattle.rows.proofs.Depth.{Halfway, halfway-none, halfway-skip, halfway-fillable, halfway-more, halfway-all}

@@ -1,4 +1,5 @@
--- The stores are those of `appended`, one by one: the link at the parent or at the last sibling, and the new row's six numbers.
+-- The stores are those of `appended`, one by one: the link at the parent or at the last sibling, and the new row's
+-- six numbers.
 use Prim.Native.Nat.{_+_, _*_}
 use native.Mathlib.Omega.{arith}
 use native.Mathlib.Numerals.{towards-suc}
@@ -9,7 +10,7 @@ use lib.ListN.{length, set, length-set}
 use lib.Dec.{eqb}
 use denote.Ref.{now}
 use borrow.Author.Tests.{eq-eqb, ne-eqb}
-use Rattle.rules.specs.Limits.{rowCells}
+use Rattle.rules.specs.sets.Limits.{rowCells}
 use Rattle.rows.specs.Tree.{appended}
 use borrow.Author.Needs.{needs}
 use Rattle.rows.proofs.tree.append.Statement.{statement}

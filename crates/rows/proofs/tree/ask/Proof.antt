@@ -1,5 +1,5 @@
--- The child number and the sibling numbers lead over the children of the row in order, so the walk passes each child up to the
--- one with the byte, or all; it ends, since each number is above the one before.
+-- The child number and the sibling numbers lead over the children of the row in order, so the walk passes each child
+-- up to the one with the byte, or all; it ends, since each number is above the one before.
 use Prim.Native.Nat.{ℕ, _-_, _≤_, _<_}
 use native.Mathlib.Omega.{arith}
 use mathlib.Core.Path.{sym, _∙_}

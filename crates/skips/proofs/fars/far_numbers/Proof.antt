@@ -7,11 +7,11 @@ use mathlib.Core.List.{List}
 use lib.ListN.{length, getD}
 use denote.Ref.{now}
 use borrow.Author.Needs.{needs}
-use Rattle.rules.specs.Limits.{longestWord, opcodes}
-use Rattle.rules.specs.Sets.{Keyword}
-use Rattle.rules.specs.Sound.{nth}
-use Rattle.rules.proofs.Least.{shortest-pos, shortest-short}
-use Rattle.words.specs.Entries.{Has, keywordsIn}
+use Rattle.rules.specs.sets.Limits.{longestWord, opcodes}
+use Rattle.rules.specs.sets.Sets.{Keyword}
+use Rattle.rules.specs.Beside.{nth}
+use Rattle.rules.proofs.skips.Least.{shortest-pos, shortest-short}
+use Rattle.words.specs.Items.{Has, keywordsIn}
 use Rattle.skips.specs.Suffixes.{Listed}
 use Rattle.skips.proofs.Matches.{listed-has, listed-byte, unit-read}
 use Rattle.skips.proofs.FarTable.{Held, Table, table-none, table-other, table-met, table-all}

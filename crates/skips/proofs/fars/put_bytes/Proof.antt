@@ -4,8 +4,8 @@ use native.Mathlib.Omega.{arith}
 use mathlib.Core.Path.{_≡_, refl, _∙_}
 use lib.ListN.{length, length-set}
 use denote.Ref.{now}
-use Rattle.rules.specs.Limits.{byteFileSize}
-use Rattle.words.specs.Entries.{keywordsIn}
+use Rattle.rules.specs.sets.Limits.{byteFileSize}
+use Rattle.words.specs.Items.{keywordsIn}
 use Rattle.skips.proofs.Written.{written, written-none, written-more, written-all}
 use Rattle.skips.proofs.fars.put_bytes.Statement.{statement}
 use Rattle.skips.proofs.fars.put_bytes.Tie as tie

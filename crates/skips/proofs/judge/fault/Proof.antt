@@ -1,4 +1,5 @@
--- The bytes passed name the row, so the first that does not is the fault, and else the first number that is not allowed.
+-- The bytes passed name the row, so the first that does not is the fault, and else the first number that is not
+-- allowed.
 use Prim.Native.Nat.{_-_}
 use native.Mathlib.Omega.{arith}
 use denote.Ref.{now}

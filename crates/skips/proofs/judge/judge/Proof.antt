@@ -4,13 +4,13 @@ use native.Mathlib.Omega.{arith}
 use mathlib.Core.Path.{_≡_, refl, sym, _∙_, ap}
 use denote.Ref.{now}
 use borrow.Author.Needs.{needs}
-use Rattle.rules.specs.Rows.{backward}
-use Rattle.rules.specs.Skips.{suffixRows}
-use Rattle.rules.specs.Refusals.{pass, rowVerdicts}
-use Rattle.rules.specs.Answers.{toldCount, toldCounted}
-use Rattle.rules.proofs.Rows.{rows-few}
-use Rattle.rules.proofs.Counts.{answer-refused, counted-number, counted-refused}
-use Rattle.words.specs.Entries.{keywordsIn}
+use Rattle.rules.specs.rows.Rows.{backward}
+use Rattle.rules.specs.skips.Skips.{suffixRows}
+use Rattle.rules.specs.answers.Refusals.{pass, rowVerdicts}
+use Rattle.rules.specs.answers.Answers.{toldCount, toldCounted}
+use Rattle.rules.proofs.rows.Rows.{rows-few}
+use Rattle.rules.proofs.answers.Counts.{answer-refused, counted-number, counted-refused}
+use Rattle.words.specs.Items.{keywordsIn}
 use Rattle.skips.proofs.Rowwise.{rows-numbered}
 use Rattle.skips.proofs.Tested.{table-size, table-rows, table-bytes, table-fars}
 use Rattle.skips.proofs.judge.judge.Statement.{statement}

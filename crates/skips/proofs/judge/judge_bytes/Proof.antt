@@ -5,11 +5,11 @@ use mathlib.Core.Path.{_≡_}
 use mathlib.Core.List.{[]}
 use lib.ListN.{getD}
 use denote.Ref.{now}
-use Rattle.rules.specs.Rows.{backward}
-use Rattle.rules.specs.Skips.{far}
-use Rattle.rules.proofs.Rows.{rows-few}
-use Rattle.rules.proofs.Counts.{answer-refused, answer-passed}
-use Rattle.words.specs.Entries.{keywordsIn}
+use Rattle.rules.specs.rows.Rows.{backward}
+use Rattle.rules.specs.skips.Skips.{far}
+use Rattle.rules.proofs.rows.Rows.{rows-few}
+use Rattle.rules.proofs.answers.Counts.{answer-refused, answer-passed}
+use Rattle.words.specs.Items.{keywordsIn}
 use Rattle.skips.proofs.Written.{table-place}
 use Rattle.skips.proofs.Compared.{faulty-zero, faulty-above, faulty-none}
 use Rattle.skips.proofs.Bytewise.{FarsPassed, fars-none, fars-stop, fars-more, fars-all}

@@ -2,11 +2,11 @@
 use Prim.Native.Nat.{_-_, _<_}
 use native.Mathlib.Omega.{arith}
 use denote.Ref.{now}
-use Rattle.rules.specs.Rows.{backward}
-use Rattle.rules.proofs.Rows.{rows-few}
-use Rattle.rules.proofs.Counts.{answer-refused, answer-passed}
-use Rattle.rules.proofs.Tables.{suffixRows-length, suffix-short}
-use Rattle.words.specs.Entries.{keywordsIn}
+use Rattle.rules.specs.rows.Rows.{backward}
+use Rattle.rules.proofs.rows.Rows.{rows-few}
+use Rattle.rules.proofs.answers.Counts.{answer-refused, answer-passed}
+use Rattle.rules.proofs.skips.Tables.{suffixRows-length, suffix-short}
+use Rattle.words.specs.Items.{keywordsIn}
 use Rattle.skips.specs.Suffixes.{At, suffixAt}
 use Rattle.skips.proofs.Rowwise.{RowsPassed, RowTold, rows-none, rows-name, rows-number, rows-more, rows-all}
 use Rattle.skips.proofs.judge.judge_rows.Statement.{statement}

@@ -1,4 +1,5 @@
--- What stands before the last n bytes of the other keyword and the end of the suffix that it is compared with are parts of two keywords.
+-- What stands before the last n bytes of the other keyword and the end of the suffix that it is compared with are
+-- parts of two keywords.
 use native.Mathlib.Omega.{arith}
 use mathlib.Core.Path.{_∙_}
 use Rattle.skips.proofs.Matches.{listed-has, listed-short, ends-always, ends-never, ends-compared}

@@ -3,11 +3,11 @@ use Prim.Native.Nat.{_-_, _≤_}
 use native.Mathlib.Omega.{arith}
 use mathlib.Core.Path.{sym, _∙_}
 use denote.Ref.{now}
-use Rattle.rules.specs.Limits.{longestWord}
-use Rattle.rules.specs.Sets.{shortest}
-use Rattle.rules.proofs.Least.{shortest-pos, shortest-short}
-use Rattle.rules.proofs.Searches.{Searched, searched-none, searched-stop, searched-more, searched-all}
-use Rattle.words.specs.Entries.{keywordsIn}
+use Rattle.rules.specs.sets.Limits.{longestWord}
+use Rattle.rules.specs.sets.Sets.{shortest}
+use Rattle.rules.proofs.skips.Least.{shortest-pos, shortest-short}
+use Rattle.rules.proofs.skips.Searches.{Searched, searched-none, searched-stop, searched-more, searched-all}
+use Rattle.words.specs.Items.{keywordsIn}
 use Rattle.skips.specs.Suffixes.{partAt, somePasses}
 use Rattle.skips.proofs.Matches.{largest-least}
 use Rattle.skips.proofs.numbers.largest.Statement.{statement}

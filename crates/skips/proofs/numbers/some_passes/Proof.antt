@@ -6,9 +6,9 @@ use mathlib.Core.Bool.{false}
 use lib.ListN.{length, take}
 use denote.Ref.{now}
 use borrow.Author.Needs.{needs}
-use Rattle.rules.specs.Strings.{any}
-use Rattle.rules.specs.Sets.{Keyword}
-use Rattle.words.specs.Entries.{keywordsIn}
+use Rattle.rules.specs.strings.Strings.{any}
+use Rattle.rules.specs.sets.Sets.{Keyword}
+use Rattle.words.specs.Items.{keywordsIn}
 use Rattle.skips.specs.Suffixes.{partAt, testOf, somePasses}
 use Rattle.skips.proofs.Matches.{some-none, some-more, some-once, some-all}
 use Rattle.skips.proofs.numbers.some_passes.Statement.{statement}

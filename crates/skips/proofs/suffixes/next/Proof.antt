@@ -4,7 +4,7 @@ use native.Mathlib.Omega.{arith}
 use mathlib.Core.Path.{_∙_}
 use lib.ListN.{length}
 use denote.Ref.{now}
-use Rattle.words.specs.Entries.{keywordsIn}
+use Rattle.words.specs.Items.{keywordsIn}
 use Rattle.words.specs.Read.{wayOf}
 use Rattle.skips.specs.Suffixes.{Walked, sharedAt}
 use Rattle.skips.proofs.Matches.{listed-has, listed-short}

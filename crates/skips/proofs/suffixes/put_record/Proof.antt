@@ -3,7 +3,7 @@ use Prim.Native.Nat.{_-_}
 use native.Mathlib.Omega.{arith}
 use mathlib.Core.Path.{_≡_}
 use lib.ListN.{length}
-use Rattle.rules.specs.Limits.{rowRecord}
+use Rattle.rules.specs.sets.Limits.{rowRecord}
 use Rattle.skips.proofs.Buffers.{Pasted, pasted-none, pasted-length, pasted-more, pasted-all}
 use Rattle.skips.proofs.suffixes.put_record.Statement.{statement}
 use Rattle.skips.proofs.suffixes.put_record.Tie as tie

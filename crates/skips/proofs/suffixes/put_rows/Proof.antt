@@ -4,7 +4,7 @@ use native.Mathlib.Omega.{arith}
 use mathlib.Core.Path.{_∙_}
 use borrow.Author.Needs.{needs}
 use denote.Ref.{now}
-use Rattle.words.specs.Entries.{keywordsIn}
+use Rattle.words.specs.Items.{keywordsIn}
 use Rattle.skips.specs.Suffixes.{At}
 use Rattle.skips.proofs.Buffers.{Laid, laid-none, laid-more, laid-length, laid-all}
 use Rattle.skips.proofs.suffixes.put_rows.Statement.{statement}

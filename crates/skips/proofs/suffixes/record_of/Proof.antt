@@ -3,9 +3,9 @@ use Prim.Native.Nat.{_+_, _-_, _<_}
 use native.Mathlib.Omega.{arith}
 use mathlib.Core.Path.{sym, _∙_, ap}
 use denote.Ref.{now}
-use Rattle.rules.specs.Limits.{opcodes}
-use Rattle.rules.specs.Skips.{inner, edge, recordOf}
-use Rattle.words.specs.Entries.{Has, keywordsIn}
+use Rattle.rules.specs.sets.Limits.{opcodes}
+use Rattle.rules.specs.skips.Skips.{inner, edge, recordOf}
+use Rattle.words.specs.Items.{Has, keywordsIn}
 use Rattle.skips.specs.Suffixes.{suffixAt, largestOf}
 use Rattle.skips.proofs.Matches.{listed-has, listed-byte, unit-read, suffix-length, suffix-short, suffix-within, suffix-part, suffix-at}
 use Rattle.skips.proofs.Spelling.{Spelled, spelled-none, spelled-more, spelled-all}

@@ -1,0 +1,5 @@
+-- Laws of lists and strings.
+pub mod Lists
+pub mod Strings
+pub mod Parts
+pub mod Orders

@@ -1,0 +1,46 @@
+-- Document 01's fixed numbers, as the definitions have them. The code has its own (rules/src/lib.rt), and the proofs
+-- hold those to these.
+use Prim.Native.Nat.{ℕ}
+
+-- bytes of a keyword record, and of them the most for the keyword
+abbrev pub recordSize : ℕ
+recordSize = 18
+
+abbrev pub longestWord : ℕ
+longestWord = 15
+
+-- the most energy of a keyword
+abbrev pub mostEnergy : ℕ
+mostEnergy = 65535
+
+-- the most keywords of a set and rows of its workspace
+abbrev pub mostKeywords : ℕ
+mostKeywords = 64
+
+abbrev pub mostRows : ℕ
+mostRows = 961
+
+-- the most bytes of a trace
+abbrev pub longestTrace : ℕ
+longestTrace = 1048576
+
+-- numbers of a row in the workspace
+abbrev pub rowCells : ℕ
+rowCells = 6
+
+-- bytes of a row file's record; depths of a byte file's record, opcodes that it speaks of, and bytes of the file
+abbrev pub rowRecord : ℕ
+rowRecord = 18
+
+abbrev pub depths : ℕ
+depths = 16
+
+abbrev pub opcodes : ℕ
+opcodes = 256
+
+abbrev pub byteFileSize : ℕ
+byteFileSize = 4096
+
+-- bytes of the host call's answer
+abbrev pub answerSize : ℕ
+answerSize = 20

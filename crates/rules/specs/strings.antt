@@ -1,0 +1,2 @@
+-- Strings of opcodes, whatever they stand for.
+pub mod Strings
