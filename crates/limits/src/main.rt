@@ -3,6 +3,7 @@
 use rules::Counted;
 use rules::Refusal;
 use rules::Way;
+use sets::RECORD;
 use sets::read;
 use words::ITEM;
 use words::LIST;
@@ -15,7 +16,7 @@ ghost use Rattle.words.specs.Items.{Words, keywordsIn};
 ghost use Rattle.rules.specs.Beside.{Sound};
 
 // Room for 66 records.
-const SPACE: usize = 1188;
+const SPACE: usize = 66 * RECORD;
 
 // What is `step` further than b, from 0 again after 255.
 fn after(b: u8, step: u8) -> u8 {
@@ -25,8 +26,8 @@ fn after(b: u8, step: u8) -> u8 {
 // Where byte k of record i stands.
 fn place(i: usize, k: usize) -> usize {
     if i < 66 {
-        if k < 18 {
-            return 18 * i + k;
+        if k < RECORD {
+            return RECORD * i + k;
         }
     }
     SPACE
@@ -155,103 +156,111 @@ fn case(name: &[u8], set: &[u8; SPACE], n: usize) {
 fn sizes() {
     let set = family(1, 0, 0, 1, 0);
     case(b"no bytes", &set, 0);
-    case(b"17 bytes", &set, 17);
-    case(b"19 bytes", &set, 19);
-    case(b"1 record", &set, 18);
-    case(b"64 records", &set, 1152);
-    case(b"65 records", &set, 1170);
-    case(b"65 records and a byte", &set, 1171);
+    case(b"17 bytes", &set, RECORD - 1);
+    case(b"19 bytes", &set, RECORD + 1);
+    case(b"1 record", &set, RECORD);
+    case(b"64 records", &set, 64 * RECORD);
+    case(b"65 records", &set, 65 * RECORD);
+    case(b"65 records and a byte", &set, 65 * RECORD + 1);
 }
 
 // The lengths about the limits, in the first record and in the last.
 fn lengths() {
     let longest = family(15, 0, 1, 0, 1);
-    case(b"length 15", &longest, 18);
+    case(b"length 15", &longest, RECORD);
     let longer = family(16, 0, 1, 0, 1);
-    case(b"length 16", &longer, 18);
+    case(b"length 16", &longer, RECORD);
     let far = family(255, 0, 1, 0, 1);
-    case(b"length 255", &far, 18);
+    case(b"length 255", &far, RECORD);
     let mut none = family(1, 0, 0, 1, 0);
     put(&mut none, place(63, 0), 0);
-    case(b"length 0 in record 63", &none, 1152);
+    case(b"length 0 in record 63", &none, 64 * RECORD);
     put(&mut none, place(0, 0), 0);
-    case(b"length 0", &none, 18);
+    case(b"length 0", &none, RECORD);
 }
 
 // The first and the last place behind a keyword, and what is no padding.
 fn paddings() {
     let mut first = family(1, 0, 0, 1, 0);
     put(&mut first, place(0, 2), 1);
-    case(b"first padding byte", &first, 18);
+    case(b"first padding byte", &first, RECORD);
     let mut last = family(1, 0, 0, 1, 0);
     put(&mut last, place(63, 15), 255);
-    case(b"last padding byte of record 63", &last, 1152);
+    case(b"last padding byte of record 63", &last, 64 * RECORD);
     put(&mut last, place(0, 15), 1);
-    case(b"last padding byte", &last, 18);
+    case(b"last padding byte", &last, RECORD);
     let mut only = family(14, 0, 1, 0, 1);
-    case(b"length 14", &only, 18);
+    case(b"length 14", &only, RECORD);
     put(&mut only, place(0, 15), 1);
-    case(b"its padding byte", &only, 18);
+    case(b"its padding byte", &only, RECORD);
     let mut figure = family(1, 0, 0, 1, 0);
     put(&mut figure, place(0, 16), 1);
     put(&mut figure, place(0, 17), 2);
-    case(b"energy is no padding", &figure, 18);
+    case(b"energy is no padding", &figure, RECORD);
 }
 
 // Zero is a byte of a keyword within its length.
 fn zeros() {
     let set = family(1, 1, 0, 0, 0);
-    case(b"0 and 0 0", &set, 36);
-    case(b"up to 15 zeros", &set, 270);
+    case(b"0 and 0 0", &set, 2 * RECORD);
+    case(b"up to 15 zeros", &set, 15 * RECORD);
     let mut other = family(1, 0, 7, 0, 0);
     put(&mut other, place(1, 0), 2);
-    case(b"7 and 7 0", &other, 36);
+    case(b"7 and 7 0", &other, 2 * RECORD);
 }
 
 // A keyword that has come before, right behind it and far behind.
 fn repeats() {
     let set = family(1, 0, 7, 0, 0);
-    case(b"record 1 as record 0", &set, 36);
+    case(b"record 1 as record 0", &set, 2 * RECORD);
     let mut far = family(1, 0, 0, 1, 0);
     put(&mut far, place(63, 1), 0);
-    case(b"record 63 as record 0", &far, 1152);
+    case(b"record 63 as record 0", &far, 64 * RECORD);
     put(&mut far, place(63, 1), 62);
     put(&mut far, place(63, 16), 0);
-    case(b"record 63 as record 62, another energy", &far, 1152);
+    case(b"record 63 as record 62, another energy", &far, 64 * RECORD);
 }
 
 // The first fault in the order of the table, and of the records.
 fn several() {
     let mut empty = family(1, 0, 0, 1, 0);
     put(&mut empty, place(0, 0), 0);
-    case(b"length 0 in 17 bytes", &empty, 17);
-    case(b"length 0 in 65 records", &empty, 1170);
+    case(b"length 0 in 17 bytes", &empty, RECORD - 1);
+    case(b"length 0 in 65 records", &empty, 65 * RECORD);
     put(&mut empty, place(0, 15), 1);
-    case(b"length 0 and padding", &empty, 18);
+    case(b"length 0 and padding", &empty, RECORD);
     let mut padding = family(1, 0, 7, 0, 0);
     put(&mut padding, place(1, 9), 1);
-    case(b"padding and record 1 as record 0", &padding, 36);
+    case(b"padding and record 1 as record 0", &padding, 2 * RECORD);
     put(&mut padding, place(1, 0), 16);
     put(&mut padding, place(0, 9), 1);
-    case(b"padding in record 0, length 16 in record 1", &padding, 36);
+    case(
+        b"padding in record 0, length 16 in record 1",
+        &padding,
+        2 * RECORD,
+    );
     let mut same = family(1, 0, 7, 0, 0);
     put(&mut same, place(2, 0), 0);
-    case(b"record 1 as record 0, length 0 in record 2", &same, 54);
+    case(
+        b"record 1 as record 0, length 0 in record 2",
+        &same,
+        3 * RECORD,
+    );
 }
 
 // How many rows there are where keywords share nothing, a beginning or an end.
 fn rows() {
     let most = family(15, 0, 0, 1, 1);
-    case(b"64 of 15 bytes, nothing shared", &most, 1152);
+    case(b"64 of 15 bytes, nothing shared", &most, 64 * RECORD);
     let up = family(1, 1, 1, 0, 1);
-    case(b"each begins the next", &up, 270);
+    case(b"each begins the next", &up, 15 * RECORD);
     let down = family(15, 255, 1, 0, 1);
-    case(b"each begins the one before", &down, 270);
+    case(b"each begins the one before", &down, 15 * RECORD);
     let behind = family(1, 1, 15, 255, 1);
-    case(b"each ends the next", &behind, 270);
+    case(b"each ends the next", &behind, 15 * RECORD);
     let mut two = family(15, 0, 1, 0, 1);
     put(&mut two, place(1, 15), 99);
-    case(b"14 of 15 bytes shared", &two, 36);
+    case(b"14 of 15 bytes shared", &two, 2 * RECORD);
 }
 
 // Document 01's set W: LM, ALM and LMLA.
@@ -264,7 +273,7 @@ fn bench() {
     put(&mut set, place(1, 3), 77);
     put(&mut set, place(2, 3), 76);
     put(&mut set, place(2, 4), 65);
-    case(b"set W", &set, 54);
+    case(b"set W", &set, 3 * RECORD);
 }
 
 // All cases, a line each.

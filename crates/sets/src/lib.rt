@@ -17,7 +17,7 @@ ghost use Rattle.words.specs.Items.{itemSize, wordOf};
 ghost use Rattle.sets.specs.Reading.{Stated, paddingFault, Reading, RecordRead, Read};
 
 // The bytes of a record.
-const RECORD: usize = 18;
+pub const RECORD: usize = 18;
 
 // A byte as a number to count with.
 fn wide(b: u8) -> usize
