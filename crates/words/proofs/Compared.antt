@@ -98,3 +98,21 @@ module _ {s : List ℕ} {p q n k : ℕ} (so : Matched s p q n k) where
           low = omega arith;
           known = first ∙ rw (here, there, rest, eq-eqb _ _ e);
         }
+
+-- none are the same; where there are some, the first alone may decide
+pub none-same : (s : List ℕ) (p q : ℕ) {n : ℕ} → n ≡ 0 → true ≡ same (take n (drop p s)) (take n (drop q s))
+unfolding same
+none-same s p q none = rw none
+
+module _ (s : List ℕ) (p q n : ℕ) (a : p + n ≤ length s) (b : q + n ≤ length s) (some : 0 < n) where
+  pub first-stop : (getD s p 0 ≡ getD s q 0 → ⊥) → false ≡ same (take n (drop p s)) (take n (drop q s))
+  first-stop f =
+      let here : p + 0 ≡ p = omega arith in
+      let there : q + 0 ≡ q = omega arith in
+      matched-stop (matched-none a b) some (rw (here, there) f)
+
+  pub first-more : getD s p 0 ≡ getD s q 0 → Matched s p q n 1
+  first-more e =
+      let here : p + 0 ≡ p = omega arith in
+      let there : q + 0 ≡ q = omega arith in
+      matched-more (matched-none a b) some (rw (here, there) e)

@@ -12,10 +12,11 @@ use borrow.Author.Tests.{leb-true, leb-false, ltb-true, ltb-false}
 use Rattle.rules.specs.sets.Limits.{longestWord}
 use Rattle.rules.specs.strings.Strings.{same}
 use Rattle.rules.specs.sets.Sets.{Keyword}
-use Rattle.rules.specs.Beside.{noKeyword, nth}
+use Rattle.rules.specs.Beside.{Sound, noKeyword, nth}
 use Rattle.rules.specs.rows.Rows as R
 use Rattle.rules.proofs.strings.Strings.{either}
 use Rattle.rules.proofs.strings.Lists.{getD-reverse}
+use Rattle.rules.proofs.strings.Orders.{getD-mem}
 use Rattle.rules.proofs.strings.Parts.{part-part}
 use Rattle.words.specs.Read.{readAt}
 use Rattle.words.specs.Items.{itemSize, itemAt, items, keywordsIn, Words, Has}
@@ -93,6 +94,9 @@ module _ {l : List ℕ} {i : ℕ} (has : Has l i) where
 
   pub word-short : length (nth (keywordsIn l) i .word) ≤ longestWord
   word-short = omega (arith, word-length, has-short)
+
+  pub word-some : Sound (keywordsIn l) → 0 < length (nth (keywordsIn l) i .word)
+  word-some sound = omega (arith, sound .filled _ (getD-mem (keywordsIn l) noKeyword i (has .within)))
 
   pub word-part : (m z : ℕ) → m + z ≤ length (nth (keywordsIn l) i .word)
       → take z (drop m (nth (keywordsIn l) i .word)) ≡ take z (drop (itemSize * i + 2 + m) l)

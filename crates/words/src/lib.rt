@@ -80,9 +80,10 @@ pub fn unit(words: &[u16], i: usize, n: usize, k: usize, way: Way) -> u16
     }
 }
 
-// How many units two keywords, as they are read, have in common before the first difference.
+// How many units two keywords, as they are read, have in common before the first difference. Most differ at once, so
+// their first units are compared before the loop begins.
 fn shared(words: &[u16], i: usize, j: usize, way: Way) -> usize
-    requires { ⌜ Has (now words) i × Has (now words) j ⌝ }
+    requires { ⌜ Has (now words) i × Has (now words) j × Sound (keywordsIn (now words)) ⌝ }
     ensures { λ r. ⌜
         r ≡ common (readAt (wayOf way) (keywordsIn (now (words .entry))) i)
         (readAt (wayOf way) (keywordsIn (now (words .entry))) j)
@@ -90,7 +91,10 @@ fn shared(words: &[u16], i: usize, j: usize, way: Way) -> usize
 {
     let a = length_of(words, i);
     let b = length_of(words, j);
-    let mut k = 0;
+    if unit(words, i, a, 0, way) != unit(words, j, b, 0, way) {
+        return 0;
+    }
+    let mut k = 1;
     loop {
         if a <= k {
             return k;
@@ -105,7 +109,8 @@ fn shared(words: &[u16], i: usize, j: usize, way: Way) -> usize
     }
 }
 
-// Whether n units of the keyword at place i, from p on, are those of the keyword at place j from q on.
+// Whether n units of the keyword at place i, from p on, are those of the keyword at place j from q on. Most differ at
+// once here too.
 pub fn alike(words: &[u16], i: usize, p: usize, j: usize, q: usize, n: usize) -> bool
     requires { ⌜
         Has (now words) i
@@ -118,9 +123,15 @@ pub fn alike(words: &[u16], i: usize, p: usize, j: usize, q: usize, n: usize) ->
         (take n (drop q (nth (keywordsIn (now (words .entry))) j .word)))
         ⌝ }
 {
+    if n == 0 {
+        return true;
+    }
     let left = ITEM * i + 2 + p;
     let right = ITEM * j + 2 + q;
-    let mut k = 0;
+    if words[left] != words[right] {
+        return false;
+    }
+    let mut k = 1;
     while k < n {
         if words[left + k] != words[right + k] {
             return false;
@@ -163,7 +174,7 @@ pub fn repeated(words: &[u16], i: usize) -> bool
 
 // How much of the keyword at place i, as it is read, an earlier one begins with too.
 pub fn most_shared(words: &[u16], i: usize, way: Way) -> usize
-    requires { ⌜ Has (now words) i ⌝ }
+    requires { ⌜ Has (now words) i × Sound (keywordsIn (now words)) ⌝ }
     ensures { λ r. ⌜
         r ≡ mostCommon (earlier (wayOf way) (keywordsIn (now (words .entry))) i)
         (readAt (wayOf way) (keywordsIn (now (words .entry))) i)

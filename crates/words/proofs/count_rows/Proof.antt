@@ -40,7 +40,7 @@ length-of-requires : tie.Need-length-of-requires Inv-loop μ-loop
 length-of-requires c κs = has (c .before) (c .loop-test .taken)
 
 most-shared-requires : tie.Need-most-shared-requires Inv-loop μ-loop
-most-shared-requires c κs = has (c .before .before) (c .before .loop-test .taken)
+most-shared-requires c κs = (has (c .before .before) (c .before .loop-test .taken), c .before .before .before .before .before .pre .1)
 
 sub-rows : tie.Need-sub-rows Inv-loop μ-loop
 sub-rows c =

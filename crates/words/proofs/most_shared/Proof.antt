@@ -24,7 +24,7 @@ loop-holds c = (omega arith, most-none _ _ _)
 shared-requires : tie.Need-shared-requires Inv-loop μ-loop
 shared-requires c κs =
     let p = c .before .before .before .pre in
-    (has-at (p .words) (omega (arith, p .within)), p)
+    (has-at (p .0 .words) (omega (arith, p .0 .within)), p .0, p .1)
 
 add-j : tie.Need-add-j Inv-loop μ-loop
 add-j c = omega arith
@@ -37,7 +37,7 @@ loop-again c =
     let d = c .before .before .before .before .before in
     let a = d .args in
     let ks = keywordsIn (now (a .words)) in
-    let more = most-more ks (c .before .before .before .loop .j) (omega (arith, d .pre .within)) (wayOf (a .way)) (readAt (wayOf (a .way)) ks (a .i)) in
+    let more = most-more ks (c .before .before .before .loop .j) (omega (arith, d .pre .0 .within)) (wayOf (a .way)) (readAt (wayOf (a .way)) ks (a .i)) in
     ⊎-elim (λ w. omega (arith, more)) (λ w. omega (arith, more)) (c .if1 .came)
 
 returns : tie.Need-returns Inv-loop μ-loop

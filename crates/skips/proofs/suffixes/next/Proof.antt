@@ -39,7 +39,8 @@ add-i c = omega (arith, listed-has (c .before .before .before .before .pre .0) (
 
 most-shared-requires : tie.Need-most-shared-requires Inv-loop μ-loop
 most-shared-requires c κs =
-    listed-has (c .before .before .before .before .pre .0) (passed c .suffix .listed)
+    let there = passed c .suffix .listed in
+    (listed-has (c .before .before .before .before .pre .0) there, there .sound)
 
 loop-less : tie.Need-loop-less Inv-loop μ-loop
 loop-less c = omega (arith, c .before .before .before .loop .inv .suffix .listed .within)
