@@ -2,20 +2,23 @@
 -- holds.
 use Prim.Native.Nat.{ℕ, suc, _*_, _≤_, _<_}
 use native.Mathlib.Omega.{arith}
-use mathlib.Core.Path.{_≡_}
+use mathlib.Core.Path.{_≡_, refl}
 use mathlib.Core.List.{List, List·Memᴰ}
 use lib.ListN.{length}
 use Rattle.rules.specs.declared.Refusal.{Refusal}
 use Rattle.rules.specs.declared.Scanned.{Scanned}
+use Rattle.rules.specs.declared.Counted.{Counted}
 use Rattle.rules.specs.sets.Limits.{longestTrace, longestWord, opcodes}
 use Rattle.rules.specs.sets.Sets.{Keyword, keywords}
-use Rattle.rules.specs.rows.Rows.{backward, cells}
+use Rattle.rules.specs.rows.Rows.{backward, rowsOf, cells}
 use Rattle.rules.specs.scans.Hits.{over}
 use Rattle.rules.specs.answers.Refusals.{Verdict, pass, refuse, orElse, fileVerdict, entryVerdict, tableVerdict}
-use Rattle.rules.specs.answers.Answers.{Told, told, numberOf, placeOf}
-use Rattle.rules.specs.answers.Promises.{Backward, backwardEntry, BackwardOf, onPass, kept, answerOr, withRows, backwardTold}
+use Rattle.rules.specs.answers.Answers.{Told, told, toldCounted, numberOf, placeOf}
+use Rattle.rules.specs.answers.Promises.{Backward, backwardEntry, BackwardOf, CheckOf, onPass, kept, answerOr, withRows, rowsTold, backwardTold}
 use Rattle.rules.specs.Beside.{Sound}
-use Rattle.rules.proofs.answers.Verdicts.{pass-orElse, refuse-orElse}
+use Rattle.rules.proofs.answers.Verdicts.{orElse-pass, pass-orElse, refuse-orElse}
+use Rattle.rules.proofs.answers.Refused.{numbered-both, numbered-entry, numbered-table}
+use Rattle.rules.proofs.answers.Counts.{counted-number, counted-refused}
 use Rattle.rules.proofs.scans.Hits.{hits-few}
 use Rattle.rules.proofs.skips.Runs.{run-asks}
 use Rattle.words.specs.Items.{Words, keywordsIn}
@@ -32,14 +35,28 @@ pub backward-refused : (v : Verdict) {ks : List Keyword} {t rowf bytef ws hs : L
 unfolding answerOr kept onPass orElse
 backward-refused v r p = record { answered = rw p; rows = rw p; listed = rw p }
 
--- tests 10 to 14 refuse: the workspace holds the rows
+-- the check of the table refuses: the workspace is as the check leaves it
 pub backward-unsafe : (v : Verdict) {ks : List Keyword} {t rowf bytef ws hs ws′ : List ℕ} (r : Refusal)
-    → v ≡ pass
-    → ws′ ≡ over (cells backward ks) ws
-    → tableVerdict ks rowf bytef ≡ refuse (numberOf r) (placeOf r)
+    → CheckOf v ks rowf bytef ws (toldCounted (Counted.Refused r)) ws′
     → BackwardOf v ks t rowf bytef ws hs (told (Scanned.Refused r)) ws′ hs
-unfolding answerOr kept onPass orElse withRows
-backward-unsafe v r p laid q = record { answered = rw (p, q); rows = rw p laid; listed = rw (p, q) }
+unfolding answerOr kept onPass rowsTold
+backward-unsafe v {ks} {t} {rowf} {bytef} r checked =
+    let said = counted-refused r (rowsTold ks) (orElse v (tableVerdict ks rowf bytef)) refl (checked .answered) in
+    record { answered = rw said; rows = checked .rows; listed = rw said }
+
+-- it accepts: all tests passed, and the workspace holds the rows
+pub backward-safe : (ks : List Keyword) (n : ℕ) {m : ℕ} {rowf bytef ws ws′ : List ℕ}
+    → CheckOf (entryVerdict backward ks n (length ws)) ks rowf bytef ws (toldCounted (Counted.Number m)) ws′
+    → (entryVerdict backward ks n (length ws) ≡ pass)
+    × (tableVerdict ks rowf bytef ≡ pass)
+    × (ws′ ≡ over (cells backward ks) ws)
+unfolding kept onPass withRows rowsTold
+backward-safe ks n {rowf = rowf} {bytef} {ws} checked =
+    let v = entryVerdict backward ks n (length ws) in
+    let table = tableVerdict ks rowf bytef in
+    let numbers = numbered-both v table (numbered-entry backward ks n (length ws)) (numbered-table ks rowf bytef) in
+    let all = orElse-pass v table (counted-number (length (rowsOf backward ks)) (orElse v table) numbers (checked .answered) .0) in
+    (all .0, all .1, rw (all .0) at (checked .rows))
 
 -- all tests passed: the run may begin
 pub run-safe : {l : List ℕ} (t ws : List ℕ)

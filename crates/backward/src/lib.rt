@@ -3,8 +3,6 @@ use hits::Tally;
 use hits::list;
 use hits::nothing;
 use rows::cells::key;
-use rows::entry::enter;
-use rows::lay;
 use rows::tree::ask;
 use rules::Counted;
 use rules::DEPTHS;
@@ -12,9 +10,8 @@ use rules::LONGEST;
 use rules::ROW;
 use rules::Scanned;
 use rules::Totals;
-use rules::Way;
 use sets::read;
-use skips::judge::judge;
+use skips::check_words;
 use words::ITEM;
 use words::LIST;
 ghost use mathlib.Core.Path.{_≡_};
@@ -177,13 +174,8 @@ fn scan_words(
         (now (hits .exit))
         ⌝ }
 {
-    let entered = enter(words, Way::Backward, trace.len(), workspace.len());
-    if let Counted::Refused(fault) = entered {
-        return Scanned::Refused(fault);
-    }
-    let rows = lay(workspace, words, Way::Backward);
-    let judged = judge(words, rows, row_file, byte_file);
-    if let Counted::Refused(fault) = judged {
+    let checked = check_words(words, trace.len(), row_file, byte_file, workspace);
+    if let Counted::Refused(fault) = checked {
         return Scanned::Refused(fault);
     }
     let seen = run(workspace, words, trace, row_file, byte_file, hits);

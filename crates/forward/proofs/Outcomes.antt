@@ -7,6 +7,7 @@ use mathlib.Core.List.{List, []}
 use lib.ListN.{length}
 use Rattle.rules.specs.declared.Refusal.{Refusal}
 use Rattle.rules.specs.declared.Scanned.{Scanned}
+use Rattle.rules.specs.declared.Counted.{Counted}
 use Rattle.rules.specs.sets.Limits.{longestTrace, longestWord}
 use Rattle.rules.specs.sets.Sets.{Keyword, keywords}
 use Rattle.rules.specs.rows.Rows.{forward, cells}
@@ -20,7 +21,9 @@ use Rattle.rules.proofs.scans.Hits.{hits-few}
 use Rattle.rules.proofs.scans.Questions.{questions-bound}
 use Rattle.words.specs.Items.{Words, keywordsIn}
 use Rattle.sets.proofs.Opened.{Opened}
+use Rattle.rows.specs.Beginning.{Begun}
 use Rattle.rows.proofs.Entering.{Entry}
+use Rattle.rows.proofs.Begun.{begun-refused}
 use Rattle.rows.proofs.Laying.{over-laid}
 use Rattle.forward.specs.declared.Running.{Running}
 use Rattle.forward.specs.Progress.{Scanning, Going}
@@ -31,6 +34,14 @@ pub forward-refused : (v : Verdict) {ks : List Keyword} {t ws hs : List ℕ} (r 
     → ForwardOf v ks t ws hs (told (Scanned.Refused r)) ws hs
 unfolding answerOr kept onPass
 forward-refused v r p = record { answered = rw p; rows = rw p; listed = rw p }
+
+pub forward-entry : {ks : List Keyword} {t ws hs ws′ : List ℕ} (r : Refusal)
+    → Begun forward ks (length t) ws (Counted.Refused r) ws′
+    → ForwardOf (entryVerdict forward ks (length t) (length ws)) ks t ws hs (told (Scanned.Refused r)) ws′ hs
+unfolding answerOr kept onPass
+forward-entry r begun =
+    let said = begun-refused r begun .0 in
+    record { answered = rw said; rows = begun .rows; listed = rw said }
 
 -- before the first byte of a scan that passed its tests
 pub start-going : {l : List ℕ} (t ws : List ℕ)

@@ -2,11 +2,10 @@
 use hits::Tally;
 use hits::list;
 use hits::nothing;
+use rows::begin;
 use rows::cells::dictionary;
 use rows::cells::key;
-use rows::entry::enter;
 use rows::failures::advance;
-use rows::lay;
 use rules::Counted;
 use rules::Scanned;
 use rules::Totals;
@@ -142,11 +141,10 @@ fn scan_words(words: &[u16], trace: &[u8], workspace: &mut [u16], hits: &mut [u3
         (now (hits .exit))
         ⌝ }
 {
-    let entered = enter(words, Way::Forward, trace.len(), workspace.len());
-    if let Counted::Refused(fault) = entered {
+    let begun = begin(workspace, words, Way::Forward, trace.len());
+    if let Counted::Refused(fault) = begun {
         return Scanned::Refused(fault);
     }
-    lay(workspace, words, Way::Forward);
     let found = proceed(workspace, words, trace, hits, fresh());
     Scanned::Found(Totals {
         count: found.tally.count as u32,

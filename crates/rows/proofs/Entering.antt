@@ -1,7 +1,8 @@
 -- The tests 7 to 9 in the order of the table: the first that shows a fault is the verdict, and where none does, rows,
 -- trace and workspace are within the limits.
 use Prim.Native.Nat.{ℕ, _*_, _≤_, _<_}
-use mathlib.Core.Path.{_≡_}
+use native.Mathlib.Omega.{arith}
+use mathlib.Core.Path.{_≡_, refl}
 use mathlib.Core.List.{List}
 use lib.ListN.{length}
 use borrow.Author.Tests.{lt-ltb, le-ltb, ltb-false}
@@ -9,6 +10,8 @@ use Rattle.rules.specs.sets.Limits.{mostRows, longestTrace, rowCells}
 use Rattle.rules.specs.sets.Sets.{Keyword}
 use Rattle.rules.specs.rows.Rows.{Way, rowsOf}
 use Rattle.rules.specs.answers.Refusals.{pass, refuse, refuseIf, orElse, rowsVerdict, traceVerdict, workspaceVerdict, entryVerdict}
+use Rattle.rules.specs.Beside.{Sound}
+use Rattle.rules.proofs.rows.Rows.{rows-few}
 use Rattle.rules.proofs.answers.Verdicts.{orElse-pass, refuseIf-pass}
 
 -- what the tests let in: rows, a trace of n bytes and a workspace of m numbers
@@ -48,3 +51,10 @@ module _ (way : Way) (ks : List Keyword) (n room : ℕ) {rows : ℕ} (counted : 
       pub entry-pass : rowCells * rows ≤ room → entryVerdict way ks n room ≡ pass
       unfolding rowsVerdict traceVerdict workspaceVerdict orElse refuseIf
       entry-pass h = rw (← counted, le-ltb mostRows rows few, le-ltb longestTrace n near, le-ltb room (rowCells * rows) h)
+
+-- where there is room for the most rows that a set has, they pass
+pub entry-ample : (way : Way) (ks : List Keyword) (n room : ℕ) → Sound ks → n ≤ longestTrace → rowCells * mostRows ≤ room
+    → entryVerdict way ks n room ≡ pass
+entry-ample way ks n room sound near ample =
+    let few = rows-few way ks sound in
+    entry-pass way ks n room refl few near (omega (arith, few))

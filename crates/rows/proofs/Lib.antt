@@ -10,4 +10,5 @@ pub mod Spelling
 pub mod Building
 pub mod Laying
 pub mod Entering
+pub mod Begun
 pub mod Determined

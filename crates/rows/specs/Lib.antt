@@ -4,3 +4,4 @@ pub mod Builds
 pub mod Falls
 pub mod Levels
 pub mod Laid
+pub mod Beginning

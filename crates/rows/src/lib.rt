@@ -6,6 +6,9 @@ pub mod failures; // failures.rt: the step that follows failures, and the failur
 pub mod levels; // levels.rt: the failures of all rows
 pub mod entry; // entry.rt: the tests of rows, trace and workspace that a job begins with
 
+use crate::entry::Verdict;
+use crate::entry::enter;
+use rules::Counted;
 use rules::Way;
 ghost use mathlib.Core.Path.{_≡_};
 ghost use Prim.Native.Nat.{_*_, _≤_};
@@ -16,10 +19,10 @@ ghost use Rattle.rules.specs.scans.Hits.{over};
 ghost use Rattle.rules.specs.Beside.{Sound};
 ghost use Rattle.words.specs.Items.{Words, keywordsIn};
 ghost use Rattle.words.specs.Read.{wayOf};
+ghost use Rattle.rows.specs.Beginning.{Begun};
 
-// The rows of keywords that passed their tests, read one way, at the front of a workspace with room for them; how
-// many there are.
-pub fn lay(ws: &mut [u16], words: &[u16], way: Way) -> usize
+// The rows of keywords, read one way, at the front of a workspace with room for them; how many there are.
+fn lay(ws: &mut [u16], words: &[u16], way: Way) -> usize
     requires { ⌜
         Words (now words)
         × Sound (keywordsIn (now words))
@@ -35,4 +38,20 @@ pub fn lay(ws: &mut [u16], words: &[u16], way: Way) -> usize
         levels::fill(ws, words);
     }
     rows
+}
+
+// What each job begins with, once its keywords are read: the tests 7 to 9 of a trace of so many bytes and of the
+// workspace, and where they pass the rows at its front; how many there are, or the refusal. A job that has no trace
+// passes none, and test 8 passes.
+pub fn begin(ws: &mut [u16], words: &[u16], way: Way, trace: usize) -> Counted
+    requires { ⌜ Words (now words) × Sound (keywordsIn (now words)) ⌝ }
+    ensures { λ r. ⌜
+        Begun (wayOf way) (keywordsIn (now (words .entry))) trace (now (ws .entry)) r (now (ws .exit))
+        ⌝ }
+{
+    let verdict = enter(words, way, trace, ws.len());
+    if let Verdict::Refuse(fault) = verdict {
+        return Counted::Refused(fault);
+    }
+    Counted::Number(lay(ws, words, way) as u16)
 }

@@ -3,4 +3,3 @@
 pub mod Suffixes
 pub mod Fars
 pub mod Judging
-pub mod Beginning

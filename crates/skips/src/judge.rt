@@ -112,7 +112,7 @@ fn judge_bytes(words: &[u16], rows: usize, m: usize, file: &[u8]) -> Counted
 }
 
 // The tests 10 to 14 of a table for keywords that passed their own and have so many rows; where they pass, that number.
-pub fn judge(words: &[u16], rows: usize, row_file: &[u8], byte_file: &[u8]) -> Counted
+pub(crate) fn judge(words: &[u16], rows: usize, row_file: &[u8], byte_file: &[u8]) -> Counted
     requires { ⌜
         Words (now words)
         × Sound (keywordsIn (now words))

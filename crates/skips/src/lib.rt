@@ -7,8 +7,7 @@ pub mod judge; // judge.rt: the tests of a table
 use crate::fars::put_bytes;
 use crate::judge::judge;
 use crate::suffixes::put_rows;
-use rows::entry::enter;
-use rows::lay;
+use rows::begin;
 use rules::BYTES;
 use rules::Counted;
 use rules::ROW;
@@ -19,26 +18,12 @@ use words::ITEM;
 use words::LIST;
 use words::shortest_of;
 ghost use lib.ListN.{length};
+ghost use Rattle.rules.specs.rows.Rows.{backward};
+ghost use Rattle.rules.specs.answers.Refusals.{entryVerdict};
 ghost use Rattle.rules.specs.answers.Answers.{toldCounted};
-ghost use Rattle.rules.specs.answers.Promises.{roomVerdict, Make, MakeOf, Check, CheckOf};
+ghost use Rattle.rules.specs.answers.Promises.{Make, MakeOf, Check, CheckOf};
 ghost use Rattle.rules.specs.Beside.{Sound};
 ghost use Rattle.words.specs.Items.{Words, keywordsIn};
-ghost use Rattle.skips.specs.Beginning.{Begun};
-
-// What making and the check begin with: the tests 7 and 9, and where they pass the backward rows in the workspace.
-fn begin(words: &[u16], workspace: &mut [u16]) -> Counted
-    requires { ⌜ Words (now words) × Sound (keywordsIn (now words)) ⌝ }
-    ensures { λ r. ⌜ Begun (keywordsIn (now (words .entry))) (now (workspace .entry)) r (now (workspace .exit)) ⌝ }
-{
-    let entered = enter(words, Way::Backward, 0, workspace.len());
-    match entered {
-        Counted::Refused(fault) => Counted::Refused(fault),
-        Counted::Number(rows) => {
-            lay(workspace, words, Way::Backward);
-            Counted::Number(rows)
-        }
-    }
-}
 
 // Making for the words of a set: refusals 7, 9, 15 and 16, else the number of rows.
 fn make_words(
@@ -49,12 +34,12 @@ fn make_words(
 ) -> Counted
     requires { ⌜ Words (now words) × Sound (keywordsIn (now words)) ⌝ }
     ensures { λ r. ⌜
-        MakeOf (roomVerdict (keywordsIn (now (words .entry))) (length (now (workspace .entry))))
+        MakeOf (entryVerdict backward (keywordsIn (now (words .entry))) 0 (length (now (workspace .entry))))
         (keywordsIn (now (words .entry))) (now (workspace .entry)) (now («row_buffer» .entry)) (now («byte_buffer» .entry))
         (toldCounted r) (now (workspace .exit)) (now («row_buffer» .exit)) (now («byte_buffer» .exit))
         ⌝ }
 {
-    let begun = begin(words, workspace);
+    let begun = begin(workspace, words, Way::Backward, 0);
     match begun {
         Counted::Refused(fault) => Counted::Refused(fault),
         Counted::Number(count) => {
@@ -97,16 +82,23 @@ pub fn make(
     }
 }
 
-// The check for the words of a set: refusals 7 and 9 to 14, else the number of rows.
-fn check_words(words: &[u16], row_file: &[u8], byte_file: &[u8], workspace: &mut [u16]) -> Counted
+// The check for the keywords of a list, and what a scan of a trace of so many bytes under the table begins with:
+// refusals 7 to 14, else the number of rows.
+pub fn check_words(
+    words: &[u16],
+    trace: usize,
+    row_file: &[u8],
+    byte_file: &[u8],
+    workspace: &mut [u16],
+) -> Counted
     requires { ⌜ Words (now words) × Sound (keywordsIn (now words)) ⌝ }
     ensures { λ r. ⌜
-        CheckOf (roomVerdict (keywordsIn (now (words .entry))) (length (now (workspace .entry))))
+        CheckOf (entryVerdict backward (keywordsIn (now (words .entry))) trace (length (now (workspace .entry))))
         (keywordsIn (now (words .entry))) (now («row_file» .entry)) (now («byte_file» .entry)) (now (workspace .entry))
         (toldCounted r) (now (workspace .exit))
         ⌝ }
 {
-    let begun = begin(words, workspace);
+    let begun = begin(workspace, words, Way::Backward, trace);
     match begun {
         Counted::Refused(fault) => Counted::Refused(fault),
         Counted::Number(rows) => judge(words, rows as usize, row_file, byte_file),
@@ -126,7 +118,7 @@ pub fn check(set: &[u8], row_file: &[u8], byte_file: &[u8], workspace: &mut [u16
         Counted::Refused(fault) => Counted::Refused(fault),
         Counted::Number(count) => {
             let end = ITEM * count as usize;
-            check_words(&list[..end], row_file, byte_file, workspace)
+            check_words(&list[..end], 0, row_file, byte_file, workspace)
         }
     }
 }

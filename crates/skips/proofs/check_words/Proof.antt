@@ -1,9 +1,12 @@
 -- The first tests decide, and where they pass the table's own.
 use denote.Ref.{now}
 use Rattle.rules.specs.declared.Counted.{Counted}
+use Rattle.rules.specs.rows.Rows.{backward}
 use Rattle.words.specs.Items.{keywordsIn}
-use Rattle.skips.specs.Beginning.{Begun}
-use Rattle.skips.proofs.Outcomes.{begun-passed, check-entry, check-judged}
+use Rattle.words.specs.Read.{wayOf}
+use Rattle.rows.specs.Beginning.{Begun}
+use Rattle.rows.proofs.Begun.{begun-laid}
+use Rattle.skips.proofs.Outcomes.{check-entry, check-judged}
 use borrow.Author.Needs.{needs}
 use Rattle.skips.proofs.check_words.Statement.{statement}
 use Rattle.skips.proofs.check_words.Tie as tie
@@ -12,7 +15,8 @@ use Rattle.skips.proofs.check_words.Tie as tie
 begun : (c : tie.After-known-told2)
     → let d = c .before .before .before .before .before in
     let a = d .before .before .before .before .before .before .args in
-    Begun (keywordsIn (now (a .words))) (now (a .workspace)) (Counted.Number (c .before .begun2 .given .0 .0)) (d .begin .last .1 .0)
+    Begun backward (keywordsIn (now (a .words))) (a .trace) (now (a .workspace)) (Counted.Number (c .before .begun2 .given .0 .0)) (d .begin .last .0)
+unfolding wayOf
 begun c = let d = c .before .before .before .before .before in rw (c .before .begun2 .given .1) at (d .begin .ensures)
 
 begin-requires : tie.Need-begin-requires
@@ -30,12 +34,13 @@ cast-judge c = search needs
 judge-requires : tie.Need-judge-requires
 judge-requires c κs =
     let p = c .before .before .before .before .before .before .before .before .before .before .before .pre in
-    (p .0, p .1, begun-passed (begun c) .1)
+    (p .0, p .1, begun-laid (begun c) .1)
 
 same-length : tie.Need-same-length
 same-length c = search needs
 
 returns : tie.Need-returns
+unfolding wayOf
 returns c =
     let d = c .before .before .before .before .before in
     check-entry (c .before .begun .given .0 .0) (rw (c .before .begun .given .1) at (d .begin .ensures))

@@ -1,9 +1,12 @@
 -- Each way out is a line of the table, and past the last of them both files fit at the fronts of their buffers.
 use denote.Ref.{now}
 use Rattle.rules.specs.declared.Counted.{Counted}
+use Rattle.rules.specs.rows.Rows.{backward}
 use Rattle.words.specs.Items.{keywordsIn}
-use Rattle.skips.specs.Beginning.{Begun}
-use Rattle.skips.proofs.Outcomes.{begun-passed, make-entry, make-rows-short, make-bytes-short, make-done}
+use Rattle.words.specs.Read.{wayOf}
+use Rattle.rows.specs.Beginning.{Begun}
+use Rattle.rows.proofs.Begun.{begun-laid}
+use Rattle.skips.proofs.Outcomes.{make-entry, make-rows-short, make-bytes-short, make-done}
 use borrow.Author.Needs.{needs}
 use Rattle.skips.proofs.make_words.Statement.{statement}
 use Rattle.skips.proofs.make_words.Tie as tie
@@ -12,7 +15,8 @@ use Rattle.skips.proofs.make_words.Tie as tie
 begun : (c : tie.After-known-told2)
     → let d = c .before .before .before .before .before in
     let a = d .before .before .before .before .before .before .args in
-    Begun (keywordsIn (now (a .words))) (now (a .workspace)) (Counted.Number (c .before .begun2 .given .0 .0)) (d .begin .last .1 .0)
+    Begun backward (keywordsIn (now (a .words))) 0 (now (a .workspace)) (Counted.Number (c .before .begun2 .given .0 .0)) (d .begin .last .0)
+unfolding wayOf
 begun c = let d = c .before .before .before .before .before in rw (c .before .begun2 .given .1) at (d .begin .ensures)
 
 begin-requires : tie.Need-begin-requires
@@ -54,7 +58,7 @@ put-rows-requires c κs =
       record {
         sound = p .1;
         shortest-is = short .shortest-of .ensures;
-        counted = begun-passed (begun d) .1;
+        counted = begun-laid (begun d) .1;
         room = short .before .before .if1 .left;
       },
     )
@@ -66,6 +70,7 @@ same-length-3 : tie.Need-same-length-3
 same-length-3 c = search needs
 
 returns-3 : tie.Need-returns-3
+unfolding wayOf
 returns-3 c =
     let d = c .before .before .before .before .before in
     make-entry _ _ (c .before .begun .given .0 .0) (rw (c .before .begun .given .1) at (d .begin .ensures))
