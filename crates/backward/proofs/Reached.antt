@@ -15,7 +15,7 @@ use Rattle.rules.specs.strings.Strings.{same, any}
 use Rattle.rules.specs.sets.Sets.{Keyword, keywordsThatAre}
 use Rattle.rules.specs.rows.Rows.{backward, readBy, prefixes, rowsOf, rowOf, keyOf}
 use Rattle.rules.specs.skips.Runs.{Stop, start, missing, windowFrom, windowAt, askedOf, asked, entered}
-use Rattle.rules.specs.Beside.{Sound, numbered}
+use Rattle.rules.specs.Beside.{Sound, numbered, Named}
 use Rattle.rules.proofs.strings.Strings.{either}
 use Rattle.rules.proofs.rows.Rows.{rowed-rows, rowOf-is, rowOf-nil, root-row}
 use Rattle.rules.proofs.rows.PrefixRows.{row-short}
@@ -25,7 +25,6 @@ use Rattle.words.specs.Items.{keywordsIn}
 use Rattle.rows.specs.declared.tree.Asked.{Asked}
 use Rattle.rows.specs.Tree.{Answered}
 use Rattle.rows.proofs.Walk.{answered-none, answered-child}
-use Rattle.hits.specs.Tallies.{Named}
 use Rattle.backward.specs.Windowed.{stopAt, Safe}
 use Rattle.backward.proofs.Moves.{stopAt-missing}
 

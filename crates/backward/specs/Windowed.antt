@@ -9,10 +9,10 @@ use Rattle.rules.specs.rows.Rows.{backward}
 use Rattle.rules.specs.scans.Hits.{Hit, hits, energy}
 use Rattle.rules.specs.skips.Runs.{innerIn, edgeIn, farIn, Stop, start, missing, moveBy, runQuestions}
 use Rattle.rules.specs.answers.Refusals.{pass, tableVerdict}
-use Rattle.rules.specs.Beside.{Sound}
+use Rattle.rules.specs.Beside.{Sound, Named}
 use Rattle.words.specs.Items.{Words, keywordsIn}
 use Rattle.rows.specs.Laid.{Laid}
-use Rattle.hits.specs.Tallies.{Tallied, Named, hitOf}
+use Rattle.hits.specs.Tallies.{Tallied, hitOf}
 use Rattle.hits.specs.declared.Tally.{Tally}
 use Rattle.backward.specs.declared.Seen.{Seen}
 

@@ -1,12 +1,12 @@
 -- What a scan has counted and listed of its hits, whichever way it scans.
 use Prim.Native.Nat.{ℕ, _*_, _/_, _≤_, min}
 use mathlib.Core.Path.{_≡_}
-use mathlib.Core.List.{List, List·Memᴰ}
+use mathlib.Core.List.{List}
 use lib.ListN.{length}
 use Rattle.rules.specs.sets.Limits.{longestWord, longestTrace, mostEnergy}
 use Rattle.rules.specs.sets.Sets.{Keyword}
 use Rattle.rules.specs.scans.Hits.{Hit, energy, hitBuffer}
-use Rattle.rules.specs.Beside.{Sound, numbered}
+use Rattle.rules.specs.Beside.{Sound, numbered, Named}
 use Rattle.words.specs.Items.{Words, keywordsIn}
 use Rattle.hits.specs.declared.Tally.{Tally}
 
@@ -20,10 +20,6 @@ pub record Tallied (done : List Hit) (old : List ℕ) (tally : Tally) (hs : List
   pub charged : tally .energy ≡ energy done
   pub listed : tally .listed ≡ min (length done) (length old / 2)
   pub buffer : hs ≡ hitBuffer done old
-
--- some keyword has the number n
-abbrev pub Named : List Keyword → ℕ → Type 0
-Named ks n = (k : Keyword) × List·Memᴰ k ks × (k .number ≡ n)
 
 -- before one hit more, at an end, of the keyword of the list l with the number n: the tally so far, and room in the
 -- counters

@@ -2,7 +2,6 @@
 pub mod Rows
 pub mod PrefixRows
 pub mod Count
-pub mod Common
 pub mod NewRows
 pub mod Children
 pub mod Listed

@@ -34,6 +34,10 @@ nth ks i = getD ks i noKeyword
 unfoldable pub numbered : List Keyword → ℕ → Keyword
 numbered ks n = firstOr noKeyword (λ (k : Keyword). eqb (k .number) n) ks
 
+-- some keyword has the number n
+abbrev pub Named : List Keyword → ℕ → Type 0
+Named ks n = (k : Keyword) × List·Memᴰ k ks × (k .number ≡ n)
+
 -- the i'th record of a set, and the keyword that it states
 unfoldable pub recordAt : List ℕ → ℕ → List ℕ
 recordAt s i = take recordSize (drop (recordSize * i) s)

@@ -5,47 +5,28 @@ use native.Mathlib.Omega.{arith}
 use native.Mathlib.Numerals.{add-one}
 use mathlib.Core.Path.{_≡_, refl, sym, _∙_, ap}
 use mathlib.Core.List.{List, [], _∷_, _++_, flatMap, append-assoc, append-nil}
-use lib.ListN.{length, take, getD, set, length-append}
-use lib.Seq.{paste, paste-zero, paste-suc, length-paste, take-length, take-suc, take-all, sets-eq}
+use lib.ListN.{length, take, getD, length-append}
+use lib.Seq.{take-length, take-suc, take-all, sets-eq}
 use Rattle.rules.specs.sets.Limits.{rowRecord, longestWord}
 use Rattle.rules.specs.sets.Sets.{Keyword}
 use Rattle.rules.specs.rows.Rows.{backward, rowsOf}
 use Rattle.rules.specs.scans.Hits.{over}
 use Rattle.rules.specs.skips.Skips.{named, inner, edge, suffixRows, rowFile, recordOf}
+use Rattle.rules.proofs.strings.Pasted.{Pasted}
 use Rattle.rules.proofs.scans.Buffers.{over-sets, over-length}
 use Rattle.rules.proofs.skips.Tables.{suffixRows-length, named-length}
 use Rattle.skips.specs.declared.suffixes.Place.{Place}
 use Rattle.skips.specs.Suffixes.{Suffix, At, suffixAt, putAt}
 use Rattle.skips.proofs.Matches.{suffix-length, suffix-short}
 
--- the first k numbers of new stand in the buffer from a place on
-pub record Pasted (old : List ℕ) (place : ℕ) (new buffer : List ℕ) (k : ℕ) : Type 0 where
-  pub room : place + length new ≤ length old
-  pub low : k ≤ length new
-  pub known : buffer ≡ paste old place new k
-
-pub pasted-none : (old : List ℕ) (place : ℕ) (new : List ℕ) → place + length new ≤ length old → Pasted old place new old 0
-pasted-none old place new h = record { room = h; low = omega arith; known = paste-zero old place new }
-
-module _ {old : List ℕ} {place : ℕ} {new buffer : List ℕ} {k : ℕ} (so : Pasted old place new buffer k) where
-  pub pasted-length : length buffer ≡ length old
-  pasted-length =
-      let low : k ≤ length new = so .low in
-      ap length (so .known) ∙ length-paste old place new k (omega (arith, so .room)) (so .low)
-
-  pub pasted-more : k < length new → Pasted old place new (set buffer (place + k) (getD new k 0)) (k + 1)
-  pasted-more h =
-      record {
-        room = so .room;
-        low = omega arith;
-        known = rw (so .known, add-one k) (paste-suc old place new k 0 (omega (arith, so .room)) h);
-      }
-
-  pub pasted-all : length new ≤ k → buffer ≡ putAt old place new
-  unfolding putAt
-  pasted-all h =
-      let all : k ≡ length new = omega (arith, so .low) in
-      so .known ∙ rw (all, take-length new)
+-- a record that is written whole
+pub pasted-all : {old : List ℕ} {place : ℕ} {new buffer : List ℕ} {k : ℕ} → Pasted old place new buffer k
+    → length new ≤ k
+    → buffer ≡ putAt old place new
+unfolding putAt
+pasted-all {new = new} {k = k} so h =
+    let all : k ≡ length new = omega (arith, so .low) in
+    so .known ∙ rw (all, take-length new)
 
 -- a record behind the numbers that lie over the front already
 over-put : (new more old : List ℕ) → length new + length more ≤ length old → putAt (over new old) (length new) more ≡ over (new ++ more) old

@@ -17,7 +17,7 @@ use Rattle.rules.specs.sets.Sets.{Keyword, shortest}
 use Rattle.rules.specs.skips.Skips.{holdsBefore, far, count, farTest}
 use Rattle.rules.specs.Beside.{Sound, noKeyword, nth}
 use Rattle.rules.proofs.strings.Strings.{either, never, any-true}
-use Rattle.rules.proofs.rows.Rows.{any-at}
+use Rattle.rules.proofs.strings.Searched.{any-at}
 use Rattle.rules.proofs.strings.Parts.{getD-map-within}
 use Rattle.rules.proofs.strings.Orders.{mem-at}
 use Rattle.rules.proofs.skips.Distances.{holds-short}

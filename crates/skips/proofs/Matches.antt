@@ -2,26 +2,24 @@
 use Prim.Native.Nat.{ℕ, _+_, _-_, _≤_, _<_}
 use native.Mathlib.Omega.{arith}
 use mathlib.Core.Path.{_≡_, refl, sym, _∙_}
-use mathlib.Core.Bool.{Bool, true, false}
-use mathlib.Core.List.{List, _∷_, [], List·Memᴰ}
+use mathlib.Core.Bool.{true, false}
+use mathlib.Core.List.{List, List·Memᴰ}
 use lib.ListN.{length, take, drop, getD, length-take, length-drop}
 use lib.Seq.{drop-drop, take-all, getD-drop}
 use Rattle.rules.specs.declared.Way.the-variants.{Forward}
 use Rattle.rules.specs.sets.Limits.{longestWord, opcodes}
-use Rattle.rules.specs.strings.Strings.{same, any}
+use Rattle.rules.specs.strings.Strings.{same}
 use Rattle.rules.specs.sets.Sets.{Keyword, shortest}
 use Rattle.rules.specs.rows.Rows.{readBy}
 use Rattle.rules.specs.skips.Skips.{least, inner, edge, holdsBefore, endsWithin}
 use Rattle.rules.specs.Beside.{noKeyword, nth}
-use Rattle.rules.proofs.strings.Strings.{same-sym, any-append}
-use Rattle.rules.proofs.rows.Rows.{any-at}
+use Rattle.rules.proofs.strings.Strings.{same-sym}
 use Rattle.rules.proofs.strings.Orders.{getD-mem}
 use Rattle.rules.proofs.strings.Parts.{drop-take}
 use Rattle.rules.proofs.skips.Distances.{holds-short, holds-part, ends-whole, ends-short, ends-front}
 use Rattle.words.specs.Items.{Words, Has, keywordsIn}
 use Rattle.words.specs.Read.{wayOf, readAt}
 use Rattle.words.proofs.Items.{has-at}
-use Rattle.words.proofs.Counted.{front-more}
 use Rattle.skips.specs.declared.numbers.Number.{Number}
 use Rattle.skips.specs.declared.numbers.Number.the-variants.{Inner, Edge}
 use Rattle.skips.specs.Suffixes.{Listed, Suffix, suffixAt, Part, partAt, testOf, somePasses, largestOf}
@@ -125,22 +123,6 @@ module _ {ks : List Keyword} {i from z : ℕ} (ok : Part ks i from z) (k n : ℕ
         sym (ends-front v w n (omega arith) (omega (arith, part-length ok))
         ∙ rw (← long, part-length ok, part-tail ok (b - n) h)
         (same-sym front (take (b - n) (drop (from + z - (b - n)) (nth ks i .word)))))
-
--- whether a keyword passes: of none, of one more, once one does, and of all
-module _ (p : Keyword → Bool) (ks : List Keyword) where
-  pub some-none : any p (take 0 ks) ≡ false
-  unfolding any
-  some-none = refl
-
-  pub some-more : (n : ℕ) → n < length ks → any p (take n ks) ≡ false → p (nth ks n) ≡ false → any p (take (n + 1) ks) ≡ false
-  unfolding any
-  some-more n h old new = rw (front-more ks n h, any-append p (take n ks) (nth ks n ∷ []), old, new)
-
-  pub some-once : (n : ℕ) → n < length ks → p (nth ks n) ≡ true → any p ks ≡ true
-  some-once n h q = any-at p ks n noKeyword h q
-
-  pub some-all : (n : ℕ) → length ks ≤ n → any p (take n ks) ≡ false → any p ks ≡ false
-  some-all n h q = rw (take-all n ks h) at q
 
 -- a number is the least at which some keyword passes its test
 pub largest-least : (which : Number) (ks : List Keyword) (v : List ℕ) → largestOf which ks v ≡ least (shortest ks) (somePasses which ks v)

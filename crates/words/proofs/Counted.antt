@@ -4,17 +4,14 @@ use Prim.Native.Nat.{ℕ, _+_, _-_, _≤_, _<_, min, max}
 use native.Mathlib.Omega.{arith}
 use native.Mathlib.Numerals.{add-one}
 use mathlib.Core.Path.{_≡_, refl}
-use mathlib.Core.Bool.{true, false}
 use mathlib.Core.List.{List, [], _∷_, _++_, map, map-append}
 use lib.ListN.{length, take, length-take}
-use lib.Seq.{take-suc, getD-take}
-use Rattle.rules.specs.strings.Strings.{same, any}
-use Rattle.rules.specs.sets.Sets.{Keyword, shortest, isKeyword}
+use lib.Seq.{take-suc}
+use Rattle.rules.specs.sets.Sets.{Keyword, shortest}
 use Rattle.rules.specs.Beside.{noKeyword, nth, common, mostCommon}
 use Rattle.rules.specs.rows.Rows as R
-use Rattle.rules.proofs.rows.Rows.{any-at}
 use Rattle.rules.proofs.rows.Count.{mostCommon-le, mostCommon-append, rowsOf-count}
-use Rattle.rules.proofs.rows.Common.{shortest-more, isKeyword-more}
+use Rattle.rules.proofs.skips.Least.{shortest-more}
 use Rattle.words.specs.Read.{readAt, earlier}
 
 -- none of the keywords, and the first
@@ -30,10 +27,6 @@ pub least-one : (ks : List Keyword) → 1 ≤ length ks → length (nth ks 0 .wo
 unfolding shortest
 least-one [] h = absurd (omega arith)
 least-one (k ∷ ks) h = refl
-
-pub new-none : (ks : List Keyword) (w : List ℕ) → isKeyword (take 0 ks) w ≡ false
-unfolding isKeyword any
-new-none ks w = refl
 
 -- one more: the keyword at place i
 module _ (ks : List Keyword) (i : ℕ) (h : i < length ks) where
@@ -55,16 +48,6 @@ module _ (ks : List Keyword) (i : ℕ) (h : i < length ks) where
   pub least-more : 1 ≤ i → shortest (take (i + 1) ks) ≡ min (shortest (take i ks)) (length (nth ks i .word))
   least-more some = rw front-more (shortest-more (take i ks) (nth ks i) (omega (arith, length-take i ks)))
 
-  pub new-more : (w : List ℕ) → isKeyword (take i ks) w ≡ false → same (nth ks i .word) w ≡ false → isKeyword (take (i + 1) ks) w ≡ false
-  new-more w p q = rw (front-more, isKeyword-more (take i ks) (nth ks i) w, p, q)
-
   -- earlier ones begin with no more than all of it
   pub most-within : (way : R.Way) → length (readAt way ks i) ≡ length (nth ks i .word) → mostCommon (earlier way ks i) (readAt way ks i) ≤ length (nth ks i .word)
   most-within way long = omega (arith, mostCommon-le (earlier way ks i) (readAt way ks i), long)
-
--- an earlier keyword that is the word w
-pub old-once : (ks : List Keyword) (w : List ℕ) (i j : ℕ) → j < i → j < length ks → same (nth ks j .word) w ≡ true → isKeyword (take i ks) w ≡ true
-unfolding isKeyword
-old-once ks w i j h q p =
-    any-at (λ (k : Keyword). same (k .word) w) (take i ks) j noKeyword (omega (arith, length-take i ks))
-    (rw (getD-take i ks j noKeyword h) p)

@@ -6,9 +6,9 @@ use mathlib.Core.Path.{_≡_, refl, _∙_, ap}
 use mathlib.Core.Bool.{Bool}
 use mathlib.Core.List.{List, [], _∷_}
 use lib.ListN.{length, take, drop, getD, length-append, length-take, length-drop, length-reverse, List·getD-append}
-use lib.Seq.{take-all, take-append-le, getD-take, getD-drop, getD-at}
-use lib.Dec.{leb, ltb}
-use borrow.Author.Tests.{leb-true, leb-false, ltb-true, ltb-false}
+use lib.Seq.{getD-take, getD-drop, getD-at}
+use lib.Dec.{ltb}
+use borrow.Author.Tests.{ltb-true, ltb-false}
 use Rattle.rules.specs.sets.Limits.{longestWord}
 use Rattle.rules.specs.strings.Strings.{same}
 use Rattle.rules.specs.sets.Sets.{Keyword}
@@ -38,18 +38,6 @@ getD-items (suc n) l d i h =
     (λ f.
     let last : i ≡ n = omega (arith, ltb-false i n f) in
     rw last (getD-at (items n l) (itemAt l n) [] d n (length-items n l)))
-
-pub take-items : (i n : ℕ) (l : List ℕ) → i ≤ n → take i (items n l) ≡ items i l
-unfolding items
-take-items i zero l h = let none : i ≡ 0 = omega arith in rw none
-take-items i (suc n) l h =
-    either (leb i n)
-    (λ t.
-    let below : i ≤ n = leb-true i n t in
-    take-append-le i (items n l) (itemAt l n ∷ []) (omega (arith, length-items n l)) ∙ take-items i n l below)
-    (λ f.
-    let all : i ≡ suc n = omega (arith, leb-false i n f) in
-    rw all (take-all (suc n) (items (suc n) l) (omega (arith, length-items (suc n) l))))
 
 -- all keywords of a list
 pub length-keywordsIn : (l : List ℕ) → length (keywordsIn l) ≡ length l / itemSize

@@ -1,11 +1,10 @@
 -- A keyword's numbers are written behind one another, so its place says the keyword and nothing before it is changed.
 use Prim.Native.Nat.{ℕ, zero, suc, _+_, _-_, _*_, _/_, _%_, _≤_, _<_}
 use native.Mathlib.Omega.{arith}
-use native.Mathlib.Numerals.{add-one}
 use mathlib.Core.Path.{_≡_, refl, sym, _∙_, ap}
 use mathlib.Core.List.{List, [], _∷_, _++_}
 use lib.ListN.{length, take, drop, getD, set, length-append, length-set, List·getD-append}
-use lib.Seq.{paste, paste-zero, paste-suc, length-paste, take-paste, take-take, take-all, take-set-le, take-append-le, drop-at, getD-take, getD-set-same, getD-set-other, length-take-le}
+use lib.Seq.{paste, length-paste, take-paste, take-take, take-all, take-set-le, take-append-le, drop-at, getD-take, getD-set-same, getD-set-other, length-take-le}
 use lib.Dec.{ltb}
 use borrow.Author.Tests.{ltb-true, ltb-false}
 use Rattle.rules.specs.sets.Limits.{longestWord}
@@ -14,27 +13,6 @@ use Rattle.rules.proofs.strings.Strings.{either}
 use Rattle.rules.proofs.strings.Parts.{drop-take}
 use Rattle.words.specs.Items.{itemSize, itemAt, items, keywordsIn, Words, Stored, Begins}
 use Rattle.words.proofs.Items.{length-keywordsIn}
-
--- the first k of the units stand in the list from a place on
-pub record Copied (l : List ℕ) (from : ℕ) (units l′ : List ℕ) (k : ℕ) : Type 0 where
-  pub low : k ≤ length units
-  pub room : from + length units ≤ length l
-  pub known : l′ ≡ paste l from units k
-
-pub copied-none : (l : List ℕ) (from : ℕ) (units : List ℕ) → from + length units ≤ length l → Copied l from units l 0
-copied-none l from units room = record { low = omega arith; room = room; known = paste-zero l from units }
-
-module _ {l : List ℕ} {from : ℕ} {units l′ : List ℕ} {k : ℕ} (so : Copied l from units l′ k) where
-  pub copied-length : length l′ ≡ length l
-  copied-length = ap length (so .known) ∙ length-paste l from units k (omega (arith, so .low, so .room)) (so .low)
-
-  pub copied-more : k < length units → Copied l from units (set l′ (from + k) (getD units k 0)) (k + 1)
-  copied-more h =
-      record {
-        low = omega arith;
-        room = so .room;
-        known = rw (so .known, add-one k) (paste-suc l from units k 0 (omega (arith, so .room)) h);
-      }
 
 -- the numbers of a keyword, written one after the other
 module _ (l : List ℕ) (i number len : ℕ) (units : List ℕ) (energy : ℕ) (room : itemSize * i + itemSize ≤ length l)

@@ -1,12 +1,12 @@
 -- The list of words: nineteen numbers a keyword, and the keywords that they say.
 use Prim.Native.Nat.{ℕ, zero, suc, _+_, _*_, _/_, _%_, _≤_, _<_}
 use mathlib.Core.Path.{_≡_}
-use mathlib.Core.List.{List, [], _∷_, _++_, List·Memᴰ}
+use mathlib.Core.List.{List, [], _∷_, _++_}
 use lib.ListN.{length, take, drop, getD, set}
 use lib.Seq.{paste}
 use Rattle.rules.specs.sets.Limits.{longestWord}
 use Rattle.rules.specs.sets.Sets.{Keyword}
-use Rattle.rules.specs.Beside.{Sound}
+use Rattle.rules.specs.Beside.{Sound, Named}
 use Rattle.words.specs.declared.Word.{Word}
 
 -- the numbers of a keyword
@@ -46,7 +46,7 @@ pub record Has (l : List ℕ) (i : ℕ) : Type 0 where
 pub record Numbering (l : List ℕ) (n : ℕ) : Type 0 where
   pub words : Words l
   pub sound : Sound (keywordsIn l)
-  pub some : (k : Keyword) × List·Memᴰ k (keywordsIn l) × (k .number ≡ n)
+  pub named : Named (keywordsIn l) n
 
 -- the keyword that a value is
 abbrev pub wordOf : Word → Keyword

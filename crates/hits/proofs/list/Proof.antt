@@ -46,7 +46,7 @@ add-listed c = search needs
 place-of-requires : tie.Need-place-of-requires
 place-of-requires c κs =
     let h = c .before .before .before .pre .2 in
-    record { words = h .words; sound = h .sound; some = h .named }
+    record { words = h .words; sound = h .sound; named = h .named }
 
 add-t9 : tie.Need-add-t9
 add-t9 c = search needs

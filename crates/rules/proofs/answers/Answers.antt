@@ -89,11 +89,6 @@ told-counted-injective = read-back toldCounted countedBy back
     back (Counted.Refused r) = answerBy-refusal (Counted.Number 0) Counted.Refused r
 
 -- The bytes of an answer.
-pub length-lowFirst : (n x : ℕ) → length (lowFirst n x) ≡ n
-unfolding lowFirst
-length-lowFirst zero x = refl
-length-lowFirst (suc n) x = ap suc (length-lowFirst n (x / 256))
-
 pub length-answerBytes : (a : Told) → length (answerBytes a) ≡ answerSize
 unfolding answerBytes lowFirst
 length-answerBytes a = refl

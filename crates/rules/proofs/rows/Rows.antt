@@ -16,6 +16,7 @@ use Rattle.rules.specs.strings.Strings.{same, begins, any}
 use Rattle.rules.specs.sets.Sets.{Keyword}
 use Rattle.rules.specs.rows.Rows.{Way, forward, backward, readBy, starts, prefixes, meet, meetWords, rowsOf, placeFrom, rowOf, parent}
 use Rattle.rules.specs.Beside.{Sound, Rowed}
+use Rattle.rules.proofs.strings.Searched.{any-at}
 use Rattle.rules.proofs.strings.Strings.{either, never, or-cases, or-left, or-right, or-fails-left, or-fails-right, same-true, same-refl, eq-same, begins-true, begins-by, begins-refl, any-true, any-mem, any-append}
 
 -- one byte more, one prefix more; over an append the later prefixes stand behind the first string
@@ -248,12 +249,6 @@ pub rowOf-new : (R : List (List ℕ)) (w : List ℕ) → any (same w) R ≡ fals
 rowOf-new R w h = rw (rowOf-snoc R w w, h, same-refl w)
 
 -- what stands at a place is a row
-pub any-at {ℓ} : {A : Type ℓ} (p : A → Bool) (L : List A) (i : ℕ) (d : A) → i < length L → p (getD L i d) ≡ true → any p L ≡ true
-unfolding any
-any-at p [] i d q h = absurd (omega arith)
-any-at p (r ∷ L) zero d q h = or-left (any p L) h
-any-at p (r ∷ L) (suc i) d q h = or-right (p r) (any-at p L i d (omega arith) h)
-
 pub row-at : (R : List (List ℕ)) (i : ℕ) (s : List ℕ) → i < length R → getD R i [] ≡ s → any (same s) R ≡ true
 row-at R i s q e = any-at (same s) R i [] q (eq-same s (getD R i []) (sym e))
 
@@ -463,11 +458,6 @@ rows-grow way ks (k ∷ ls) = rows-below way ks ls k [] (readBy way (k .word)) r
 unfoldable pub total : List Keyword → ℕ
 total [] = 0
 total (k ∷ ks) = length (k .word) + total ks
-
-pub total-append : (a b : List Keyword) → total (a ++ b) ≡ total a + total b
-unfolding total
-total-append [] b = sym (zero-add (total b))
-total-append (k ∷ a) b = rw (total-append a b) (omega arith)
 
 meet-length : (R ss : List (List ℕ)) → length (meet R ss) ≤ length R + length ss
 unfolding meet

@@ -1,11 +1,11 @@
 -- The least number that passes is found by counting up from 1, and what was counted over did not pass.
-use Prim.Native.Nat.{ℕ, zero, suc, _+_, _-_, _≤_, _<_}
+use Prim.Native.Nat.{ℕ, zero, suc, _+_, _-_, _≤_, _<_, min}
 use native.Mathlib.Nat.{eq-or-lt-of-le}
 use native.Mathlib.Omega.{arith}
 use mathlib.Core.Path.{_≡_, refl}
 use mathlib.Core.Logic.{_⊎_, inl, inr}
 use mathlib.Core.Bool.{Bool, true, false, cond}
-use mathlib.Core.List.{List, [], _∷_, List·Memᴰ, List·Memᴰ·head, List·Memᴰ·tail, List·Memᴰ·not-nil, List·Memᴰ·cases-cons, List·Memᴰ·eq-of-singleton}
+use mathlib.Core.List.{List, [], _∷_, _++_, List·Memᴰ, List·Memᴰ·head, List·Memᴰ·tail, List·Memᴰ·not-nil, List·Memᴰ·cases-cons, List·Memᴰ·eq-of-singleton}
 use lib.ListN.{length}
 use lib.Dec.{leb}
 use borrow.Author.Tests.{leb-true, leb-false}
@@ -81,6 +81,13 @@ least-le m p n low q =
     either (leb (least m p) n)
     (leb-true (least m p) n)
     (λ f. never q (least-below m p n low (leb-false (least m p) n f)))
+
+-- the shortest with one keyword more
+pub shortest-more : (ks : List Keyword) (k : Keyword) → 1 ≤ length ks → shortest (ks ++ (k ∷ [])) ≡ min (shortest ks) (length (k .word))
+unfolding shortest
+shortest-more [] k h = absurd (omega arith)
+shortest-more (l ∷ []) k h = refl
+shortest-more (l ∷ m ∷ ks) k h = omega (arith, shortest-more (m ∷ ks) k (omega arith))
 
 -- no keyword is shorter than the shortest
 pub shortest-le : {k : Keyword} (ks : List Keyword) → List·Memᴰ k ks → shortest ks ≤ length (k .word)

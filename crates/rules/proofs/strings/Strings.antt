@@ -4,6 +4,7 @@ use mathlib.Core.Path.{_≡_, refl, sym, _∙_, ap}
 use mathlib.Core.Logic.{_⊎_, inl, inr}
 use mathlib.Core.Bool.{Bool, true, false, _&&_, _||_, cond, true≢false, or-assoc}
 use mathlib.Core.List.{List, [], _∷_, _++_, append-nil, List·Memᴰ, List·Memᴰ·head, List·Memᴰ·tail, List·Memᴰ·not-nil, List·Memᴰ·cases-cons, List·Memᴰ·eq-of-singleton}
+use lib.ListN.{length}
 use lib.Dec.{eqb}
 use borrow.Author.Tests.{eqb-true, eq-eqb}
 use Rattle.rules.specs.strings.Strings.{same, begins, suffixes, any, ends, keep}
@@ -72,6 +73,10 @@ same-true (x ∷ a) (y ∷ b) h =
     let head : x ≡ y = eqb-true x y (and-left (eqb x y) (same a b) h) in
     let tail : a ≡ b = same-true a b (and-right (eqb x y) (same a b) h) in
     cc
+
+-- strings of two lengths never are
+pub same-unlike : (a b : List ℕ) → (length a ≡ length b → ⊥) → same a b ≡ false
+same-unlike a b h = fails (same a b) (λ t. h (ap length (same-true a b t)))
 
 pub same-refl : (a : List ℕ) → same a a ≡ true
 unfolding same

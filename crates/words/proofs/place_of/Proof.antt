@@ -45,7 +45,7 @@ place : (c : tie.At-loop Inv-loop μ-loop)
     → let ks = keywordsIn (now (c .before .before .before .before .args .words)) in
     (j : ℕ) × (j < length ks) × (nth ks j .number ≡ c .before .before .before .before .args .number)
 place c =
-    let some = c .before .before .before .before .pre .some in
+    let some = c .before .before .before .before .pre .named in
     let (j, within, is) = mem-at (some .1) in
     (j, within, ap (λ (k : Keyword). k .number) (is noKeyword) ∙ some .2)
 

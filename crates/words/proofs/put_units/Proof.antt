@@ -4,12 +4,12 @@ use native.Mathlib.Omega.{arith}
 use mathlib.Core.Path.{_≡_}
 use lib.ListN.{length}
 use Rattle.rules.specs.sets.Limits.{longestWord}
-use Rattle.words.proofs.Storing.{Copied, copied-none, copied-length, copied-more}
+use Rattle.rules.proofs.strings.Pasted.{Pasted, pasted-none, pasted-length, pasted-more}
 use Rattle.words.proofs.put_units.Statement.{statement}
 use Rattle.words.proofs.put_units.Tie as tie
 
 abbrev Inv-loop : tie.InvT-loop
-Inv-loop words₀ from units k₀ words k = Copied words₀ from units words k
+Inv-loop words₀ from units k₀ words k = Pasted words₀ from units words k
 
 abbrev μ-loop : tie.MeasureT-loop
 μ-loop words₀ from units k₀ words k = longestWord - k
@@ -19,7 +19,7 @@ sized : (c : tie.Start Inv-loop μ-loop) → length (c .args .t3) ≡ longestWor
 sized c = c .good .1 .1 .0 .1 .0 .1
 
 loop-holds : tie.Need-loop-holds Inv-loop μ-loop
-loop-holds c = copied-none _ _ _ (omega (arith, sized c))
+loop-holds c = pasted-none _ _ _ (omega (arith, sized c))
 
 mul-words : tie.Need-mul-words Inv-loop μ-loop
 mul-words c = omega arith
@@ -34,7 +34,7 @@ mul-words-2 : tie.Need-mul-words-2 Inv-loop μ-loop
 mul-words-2 c = omega arith
 
 slice-write-words : tie.Need-slice-write-words Inv-loop μ-loop
-slice-write-words c = omega (arith, copied-length (c .before .loop .inv))
+slice-write-words c = omega (arith, pasted-length (c .before .loop .inv))
 
 add-k : tie.Need-add-k Inv-loop μ-loop
 add-k c = omega arith
@@ -43,10 +43,10 @@ loop-less : tie.Need-loop-less Inv-loop μ-loop
 loop-less c = omega arith
 
 loop-again : tie.Need-loop-again Inv-loop μ-loop
-loop-again c = copied-more (c .before .loop .inv) (omega (arith, sized (c .before .before)))
+loop-again c = pasted-more (c .before .loop .inv) (omega (arith, sized (c .before .before)))
 
 same-length : tie.Need-same-length Inv-loop μ-loop
-same-length c = copied-length (c .before .loop .inv)
+same-length c = pasted-length (c .before .loop .inv)
 
 returns : tie.Need-returns Inv-loop μ-loop
 returns c =

@@ -7,10 +7,10 @@ use denote.Ref.{now}
 use lib.ListN.{take}
 use native.Mathlib.Omega.{arith}
 use Rattle.rules.specs.sets.Sets.{isKeyword}
-use Rattle.rules.specs.Beside.{nth}
+use Rattle.rules.specs.Beside.{noKeyword, nth}
+use Rattle.rules.proofs.strings.Searched.{none-passed, none-more, one-passes}
 use Rattle.words.specs.Items.{keywordsIn}
 use Rattle.words.proofs.Items.{has-at}
-use Rattle.words.proofs.Counted.{new-none, new-more, old-once}
 use Rattle.words.proofs.repeated.Statement.{statement}
 use Rattle.words.proofs.repeated.Tie as tie
 
@@ -24,7 +24,8 @@ length-of-requires : tie.Need-length-of-requires Inv-loop μ-loop
 length-of-requires c κs = c .before .pre
 
 loop-holds : tie.Need-loop-holds Inv-loop μ-loop
-loop-holds c = (omega arith, new-none (keywordsIn (now (c .before .before .args .words))) _)
+unfolding isKeyword
+loop-holds c = (omega arith, none-passed _ (keywordsIn (now (c .before .before .args .words))))
 
 same-word-requires : tie.Need-same-word-requires Inv-loop μ-loop
 same-word-requires c κs =
@@ -32,10 +33,11 @@ same-word-requires c κs =
     (has-at (p .words) (omega (arith, p .within)), p, c .before .before .length-of .ensures .0)
 
 returns : tie.Need-returns Inv-loop μ-loop
+unfolding isKeyword
 returns c =
     let p = c .before .before .before .before .before .before .pre in
     sym
-    (old-once _ _ _ _ (c .before .before .loop-test .taken) (omega (arith, p .within)) (sym (c .before .same-word .ensures) ∙ c .if1 .taken))
+    (one-passes _ _ noKeyword _ _ (c .before .before .loop-test .taken) (omega (arith, p .within)) (sym (c .before .same-word .ensures) ∙ c .if1 .taken))
 
 add-j : tie.Need-add-j Inv-loop μ-loop
 add-j c = omega arith
@@ -44,10 +46,12 @@ loop-less : tie.Need-loop-less Inv-loop μ-loop
 loop-less c = omega arith
 
 loop-again : tie.Need-loop-again Inv-loop μ-loop
+unfolding isKeyword
 loop-again c =
     let p = c .before .before .before .before .before .before .pre in (
       omega arith,
-      new-more (keywordsIn (now (c .before .before .before .before .before .before .args .words))) (c .before .before .before .loop .j) (omega (arith, p .within)) _ (c .before .before .before .loop .inv .1) (sym (c .before .same-word .ensures) ∙ c .if1 .left),
+      none-more _ _ noKeyword (c .before .before .before .loop .j) (omega (arith, p .within)) (c .before .before .before .loop .inv .1)
+          (sym (c .before .same-word .ensures) ∙ c .if1 .left),
     )
 
 returns-2 : tie.Need-returns-2 Inv-loop μ-loop

@@ -6,7 +6,7 @@ use lib.ListN.{length, take}
 use lib.Seq.{take-all}
 use native.Mathlib.Omega.{arith}
 use Rattle.rules.specs.strings.Strings.{same}
-use Rattle.rules.proofs.rows.Common.{same-unlike}
+use Rattle.rules.proofs.strings.Strings.{same-unlike}
 use borrow.Author.Needs.{needs}
 use Rattle.words.proofs.same_word.Statement.{statement}
 use Rattle.words.proofs.same_word.Tie as tie

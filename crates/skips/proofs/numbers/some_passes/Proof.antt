@@ -8,9 +8,10 @@ use denote.Ref.{now}
 use borrow.Author.Needs.{needs}
 use Rattle.rules.specs.strings.Strings.{any}
 use Rattle.rules.specs.sets.Sets.{Keyword}
+use Rattle.rules.specs.Beside.{noKeyword}
+use Rattle.rules.proofs.strings.Searched.{any-at, none-passed, none-more, none-at-all}
 use Rattle.words.specs.Items.{keywordsIn}
 use Rattle.skips.specs.Suffixes.{partAt, testOf, somePasses}
-use Rattle.skips.proofs.Matches.{some-none, some-more, some-once, some-all}
 use Rattle.skips.proofs.numbers.some_passes.Statement.{statement}
 use Rattle.skips.proofs.numbers.some_passes.Tie as tie
 
@@ -26,7 +27,7 @@ count-of-requires : tie.Need-count-of-requires Inv-loop μ-loop
 count-of-requires c κs = search needs
 
 loop-holds : tie.Need-loop-holds Inv-loop μ-loop
-loop-holds c = (omega arith, some-none _ (keywordsIn (now (c .before .before .args .words))))
+loop-holds c = (omega arith, none-passed _ (keywordsIn (now (c .before .before .args .words))))
 
 passes-requires : tie.Need-passes-requires Inv-loop μ-loop
 passes-requires c κs =
@@ -38,7 +39,7 @@ returns : tie.Need-returns Inv-loop μ-loop
 unfolding somePasses
 returns c =
     let d = c .before .before in
-    sym (some-once _ _ (d .before .loop .k) (omega (arith, d .before .before .count-of .ensures))
+    sym (any-at _ _ (d .before .loop .k) noKeyword (omega (arith, d .before .before .count-of .ensures))
     (sym (c .before .passes .ensures) ∙ c .if1 .taken))
 
 add-k : tie.Need-add-k Inv-loop μ-loop
@@ -53,12 +54,12 @@ loop-again c =
     let within : d .before .loop .k < length (keywordsIn (now (d .before .before .before .before .args .words))) =
     omega (arith, d .before .before .count-of .ensures) in
     let new = sym (c .before .passes .ensures) ∙ c .if1 .left in
-    (omega arith, some-more _ _ (d .before .loop .k) within (d .before .loop .inv .1) new)
+    (omega arith, none-more _ _ noKeyword (d .before .loop .k) within (d .before .loop .inv .1) new)
 
 returns-2 : tie.Need-returns-2 Inv-loop μ-loop
 unfolding somePasses
 returns-2 c =
-    sym (some-all _ _ (c .before .loop .k) (omega (arith, c .before .before .count-of .ensures)) (c .before .loop .inv .1))
+    sym (none-at-all _ _ (c .before .loop .k) (omega (arith, c .before .before .count-of .ensures)) (c .before .loop .inv .1))
 
 pub some-passes-spec : {M : Type 1} → statement M
 some-passes-spec =

@@ -4,7 +4,8 @@ use native.Mathlib.Omega.{arith}
 use mathlib.Core.Path.{_≡_}
 use lib.ListN.{length}
 use Rattle.rules.specs.sets.Limits.{rowRecord}
-use Rattle.skips.proofs.Buffers.{Pasted, pasted-none, pasted-length, pasted-more, pasted-all}
+use Rattle.rules.proofs.strings.Pasted.{Pasted, pasted-none, pasted-length, pasted-more}
+use Rattle.skips.proofs.Buffers.{pasted-all}
 use Rattle.skips.proofs.suffixes.put_record.Statement.{statement}
 use Rattle.skips.proofs.suffixes.put_record.Tie as tie
 
