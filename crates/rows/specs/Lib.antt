@@ -1,4 +1,4 @@
--- What the workspace holds while its rows are built, and what a question answers.
+-- What the workspace holds while its rows are built, what a question answers, and what a job begins with.
 pub mod Tree
 pub mod Builds
 pub mod Falls
