@@ -5,7 +5,7 @@ use native.Mathlib.Omega.{arith}
 use mathlib.Core.Path.{_≡_, sym, _∙_, ap}
 use mathlib.Core.List.{List, [], _++_, map, map-map, flatMap, reverse, append-assoc, append-nil, Memᴰ·append-left}
 use lib.ListN.{length, take, length-append, length-take, length-map, length-reverse}
-use Rattle.rules.specs.sets.Limits.{longestWord, longestTrace}
+use Rattle.rules.specs.sets.Limits.{longestWord, longestTrace, rowRecord}
 use Rattle.rules.specs.sets.Sets.{Keyword}
 use Rattle.rules.specs.rows.Rows.{backward}
 use Rattle.rules.specs.scans.Hits.{Hit, hits}
@@ -53,7 +53,7 @@ module _ {l t rowf bytef ws : List ℕ} (safe : Safe l t rowf bytef ws) where
   sure = accepted-sure (safe .sound) accepted t (safe .bytes)
 
   -- row 0's record is there
-  pub first-room : 18 ≤ length rowf
+  pub first-room : rowRecord ≤ length rowf
   first-room = omega (arith, accepted .rowSize, rowed-rows backward (keywordsIn l) .some)
 
   -- before the first window

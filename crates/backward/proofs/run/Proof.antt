@@ -8,7 +8,7 @@ use mathlib.Core.List.{[]}
 use lib.ListN.{length, getD}
 use denote.Ref.{now}
 use borrow.Author.Needs.{needs}
-use Rattle.rules.specs.sets.Limits.{opcodes}
+use Rattle.rules.specs.sets.Limits.{longestWord, opcodes}
 use Rattle.rows.specs.Tree.{Answered}
 use Rattle.backward.specs.Windowed.{Safe}
 use Rattle.backward.proofs.Reached.{rowsIn, lastOf, Reached, Stopped, reached-none, reached-within, child-room, child-free, reached-more, reached-key, stopped-start, stopped-missing}
@@ -118,7 +118,7 @@ cast-keys : tie.Need-cast-keys Inv-bytes μ-bytes Inv-loop μ-loop
 cast-keys c = omega (arith, c .before .key .ensures .1)
 
 -- there is a place for one more keyword met
-free : (c : tie.Else2 Inv-bytes μ-bytes Inv-loop μ-loop) → c .before .before .before .before .before .bytes .met < 15
+free : (c : tie.Else2 Inv-bytes μ-bytes Inv-loop μ-loop) → c .before .before .before .before .before .bytes .met < longestWord
 free c =
     let b = c .before .before .before .before .before in
     let l = b .before .before in

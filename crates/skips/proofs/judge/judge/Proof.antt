@@ -4,6 +4,7 @@ use native.Mathlib.Omega.{arith}
 use mathlib.Core.Path.{_≡_, refl, sym, _∙_, ap}
 use denote.Ref.{now}
 use borrow.Author.Needs.{needs}
+use Rattle.rules.specs.sets.Limits.{mostRows}
 use Rattle.rules.specs.rows.Rows.{backward}
 use Rattle.rules.specs.skips.Skips.{suffixRows}
 use Rattle.rules.specs.answers.Refusals.{pass, rowVerdicts}
@@ -16,7 +17,7 @@ use Rattle.skips.proofs.Tested.{table-size, table-rows, table-bytes, ta
 use Rattle.skips.proofs.judge.judge.Statement.{statement}
 use Rattle.skips.proofs.judge.judge.Tie as tie
 
-few : (c : tie.Start) → c .args .rows ≤ 961
+few : (c : tie.Start) → c .args .rows ≤ mostRows
 few c = omega (arith, c .pre .2, rows-few backward (keywordsIn (now (c .args .words))) (c .pre .1))
 
 mul-if1 : tie.Need-mul-if1

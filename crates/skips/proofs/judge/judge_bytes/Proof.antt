@@ -5,6 +5,7 @@ use mathlib.Core.Path.{_≡_}
 use mathlib.Core.List.{[]}
 use lib.ListN.{getD}
 use denote.Ref.{now}
+use Rattle.rules.specs.sets.Limits.{byteFileSize}
 use Rattle.rules.specs.rows.Rows.{backward}
 use Rattle.rules.specs.skips.Skips.{far}
 use Rattle.rules.proofs.rows.Rows.{rows-few}
@@ -20,7 +21,7 @@ abbrev Inv-loop : tie.InvT-loop
 Inv-loop words rows m file far p₀ p = FarsPassed (keywordsIn words) file p
 
 abbrev μ-loop : tie.MeasureT-loop
-μ-loop words rows m file far p₀ p = 4096 - p
+μ-loop words rows m file far p₀ p = byteFileSize - p
 
 far-numbers-requires : tie.Need-far-numbers-requires Inv-loop μ-loop
 far-numbers-requires c κs = let known = c .before .before .pre in (known .0, known .1 .sound, known .1 .shortest-is)

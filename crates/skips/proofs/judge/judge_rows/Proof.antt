@@ -2,6 +2,7 @@
 use Prim.Native.Nat.{_-_, _<_}
 use native.Mathlib.Omega.{arith}
 use denote.Ref.{now}
+use Rattle.rules.specs.sets.Limits.{mostRows}
 use Rattle.rules.specs.rows.Rows.{backward}
 use Rattle.rules.proofs.rows.Rows.{rows-few}
 use Rattle.rules.proofs.answers.Counts.{answer-refused, answer-passed}
@@ -37,7 +38,7 @@ fault-requires c κs =
     omega (arith, c .before .loop .inv .0 .within, known .1 .counted, known .2)
 
 -- a row's number is small
-small : (c : tie.At-loop Inv-loop μ-loop) → c .loop .row < 961
+small : (c : tie.At-loop Inv-loop μ-loop) → c .loop .row < mostRows
 small c =
     let s = c .before .before .before .before in
     omega (arith, c .loop .inv .0 .within, rows-few backward (keywordsIn (now (s .args .words))) (s .pre .1 .sound))
