@@ -10,21 +10,22 @@ use Rattle.rules.specs.declared.Scanned.{Scanned}
 use Rattle.rules.specs.declared.Counted.{Counted}
 use Rattle.rules.specs.sets.Limits.{longestTrace, longestWord, opcodes}
 use Rattle.rules.specs.sets.Sets.{Keyword, keywords}
-use Rattle.rules.specs.rows.Rows.{backward, rowsOf, cells}
+use Rattle.rules.specs.rows.Rows.{backward, cells}
 use Rattle.rules.specs.scans.Hits.{over}
 use Rattle.rules.specs.answers.Refusals.{Verdict, pass, refuse, orElse, fileVerdict, entryVerdict, tableVerdict}
 use Rattle.rules.specs.answers.Answers.{Told, told, toldCounted, numberOf, placeOf}
 use Rattle.rules.specs.answers.Promises.{Backward, backwardEntry, BackwardOf, CheckOf, onPass, kept, answerOr, withRows, rowsTold, backwardTold}
 use Rattle.rules.specs.Beside.{Sound}
-use Rattle.rules.proofs.answers.Verdicts.{orElse-pass, pass-orElse, refuse-orElse}
-use Rattle.rules.proofs.answers.Refused.{numbered-both, numbered-entry, numbered-table}
-use Rattle.rules.proofs.answers.Counts.{counted-number, counted-refused}
+use Rattle.rules.proofs.answers.Verdicts.{pass-orElse, refuse-orElse}
+use Rattle.rules.proofs.answers.Refused.{numbered-entry}
+use Rattle.rules.proofs.answers.Counts.{counted-refused}
 use Rattle.rules.proofs.scans.Hits.{hits-few}
 use Rattle.rules.proofs.skips.Runs.{run-asks}
 use Rattle.words.specs.Items.{Words, keywordsIn}
 use Rattle.sets.proofs.Opened.{Opened}
 use Rattle.rows.proofs.Entering.{Entry}
 use Rattle.rows.proofs.Laying.{over-laid}
+use Rattle.skips.proofs.Accepts.{check-passed}
 use Rattle.backward.specs.declared.Seen.{Seen}
 use Rattle.backward.specs.Windowed.{Safe, Ran}
 
@@ -50,12 +51,9 @@ pub backward-safe : (ks : List Keyword) (n : ℕ) {m : ℕ} {rowf bytef ws ws′
     → (entryVerdict backward ks n (length ws) ≡ pass)
     × (tableVerdict ks rowf bytef ≡ pass)
     × (ws′ ≡ over (cells backward ks) ws)
-unfolding kept onPass withRows rowsTold
-backward-safe ks n {rowf = rowf} {bytef} {ws} checked =
-    let v = entryVerdict backward ks n (length ws) in
-    let table = tableVerdict ks rowf bytef in
-    let numbers = numbered-both v table (numbered-entry backward ks n (length ws)) (numbered-table ks rowf bytef) in
-    let all = orElse-pass v table (counted-number (length (rowsOf backward ks)) (orElse v table) numbers (checked .answered) .0) in
+unfolding kept onPass withRows
+backward-safe ks n {ws = ws} checked =
+    let all = check-passed checked (numbered-entry backward ks n (length ws)) refl in
     (all .0, all .1, rw (all .0) at (checked .rows))
 
 -- all tests passed: the run may begin

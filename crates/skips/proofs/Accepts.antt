@@ -11,7 +11,7 @@ use Rattle.rules.specs.answers.Refusals.{Verdict, pass, orElse, tableVerdict}
 use Rattle.rules.specs.answers.Answers.{Told}
 use Rattle.rules.specs.answers.Promises.{rowsTold, roomVerdict, tableEntry, Check, CheckOf}
 use Rattle.rules.specs.scans.Audit.{Accepted}
-use Rattle.rules.proofs.answers.Verdicts.{orElse-exactly}
+use Rattle.rules.proofs.answers.Verdicts.{orElse-pass, orElse-exactly}
 use Rattle.rules.proofs.answers.Refused.{Numbered, numbered-both, numbered-file, numbered-size, numbered-workspace, numbered-table, answered-passed}
 use Rattle.rules.proofs.answers.Counts.{answer-passed}
 use Rattle.rules.proofs.skips.Tables.{accepted-exactly}
@@ -29,19 +29,19 @@ module _ {v : Verdict} {ks : List Keyword} {rowf bytef ws : List ℕ} {answer : 
       orElse-exactly v (tableVerdict ks rowf bytef) .1 (entry, accepted-exactly ks rowf bytef .1 safe) in
       checked .answered ∙ sym (answer-passed (rowsTold ks) passed)
 
+  pub check-passed : Numbered v → answer .number ≡ 0 → (v ≡ pass) × (tableVerdict ks rowf bytef ≡ pass)
+  check-passed fine e =
+      orElse-pass v (tableVerdict ks rowf bytef)
+      (answered-passed (rowsTold ks) (orElse v (tableVerdict ks rowf bytef))
+      (numbered-both v (tableVerdict ks rowf bytef) fine (numbered-table ks rowf bytef))
+      (checked .answered)
+      e)
+
   pub check-exactly : Numbered v → (answer .number ≡ 0) ↔ ((v ≡ pass) × Accepted ks rowf bytef)
-  check-exactly fine =
-      let w : Verdict = orElse v (tableVerdict ks rowf bytef) in (
-        λ e.
-            let passed : w ≡ pass =
-            answered-passed (rowsTold ks) w
-            (numbered-both v (tableVerdict ks rowf bytef) fine (numbered-table ks rowf bytef))
-            (checked .answered)
-            e in
-            let both = orElse-exactly v (tableVerdict ks rowf bytef) .0 passed in
-            (both .0, accepted-exactly ks rowf bytef .0 (both .1)),
-        λ k. ap (λ (t : Told). t .number) (check-answers (k .0) (k .1)) ∙ rows-told ks,
-      )
+  check-exactly fine = (
+    λ e. let both = check-passed fine e in (both .0, accepted-exactly ks rowf bytef .0 (both .1)),
+    λ k. ap (λ (t : Told). t .number) (check-answers (k .0) (k .1)) ∙ rows-told ks,
+  )
 
 -- The check of a set's bytes accepts exactly the safe tables.
 pub entry-numbered : (s : List ℕ) (room : ℕ) → Numbered (tableEntry s room)
