@@ -4,7 +4,7 @@ set -euo pipefail
 cd "$(dirname "$0")/.."
 made=$(mktemp -d)
 trap 'rm -rf "$made"' EXIT
-gcc -std=c99 -Wall -Wextra -Wpedantic -Werror -O2 -Iinclude examples/host.c target/staticlib/libhost.a -o "$made/host"
+gcc -std=c99 -Wall -Wextra -Wpedantic -Werror -O2 -Iinclude examples/host.c target/staticlib/libbezowik.a -o "$made/host"
 if command -v g++ >/dev/null; then
     printf '#include "bezowik.h"\nint main() { return BEZOWIK_DONE; }\n' | g++ -std=c++11 -Wall -Wextra -Werror -Iinclude -x c++ -fsyntax-only -
 else

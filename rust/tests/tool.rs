@@ -640,7 +640,7 @@ fn build_without_the_library() {
     cargo.current_dir(env!("CARGO_MANIFEST_DIR")).env("BEZOWIK_LIB", &folder.0);
     let output = cargo.output().expect("cargo runs");
     let told = String::from_utf8_lossy(&output.stderr);
-    let expected = format!("no libhost.a in {}: run `rt staticlib host` first\n", folder.0.display());
+    let expected = format!("no libbezowik.a in {}: run `rt staticlib bezowik` first\n", folder.0.display());
     assert!(!output.status.success() && told.contains(&expected), "{told}");
 }
 

@@ -1,7 +1,7 @@
 // The small program: the forward scan of text.bin with set.bin, both in the working folder, printed.
+use bezowik::answer::Answer;
+use bezowik::answer::from_scanned;
 use forward::scan;
-use host::answer::Answer;
-use host::answer::from_scanned;
 use rules::WORKSPACE;
 ghost use Prim.Native.Nat.{_≤_};
 ghost use lib.ListN.{length};

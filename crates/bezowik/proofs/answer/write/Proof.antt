@@ -5,10 +5,10 @@ use mathlib.Core.List.{List}
 use lib.Seq.{sets}
 use borrow.Author.Needs.{needs}
 use Rattle.rules.specs.answers.Answers.{lowFirst}
-use Rattle.host.specs.Calls.{toldOf}
-use Rattle.host.proofs.Digits.{put-all}
-use Rattle.host.proofs.answer.write.Statement.{statement}
-use Rattle.host.proofs.answer.write.Tie as tie
+use Rattle.bezowik.specs.Calls.{toldOf}
+use Rattle.bezowik.proofs.Digits.{put-all}
+use Rattle.bezowik.proofs.answer.write.Statement.{statement}
+use Rattle.bezowik.proofs.answer.write.Tie as tie
 
 cast-put : tie.Need-cast-put
 cast-put c = search needs

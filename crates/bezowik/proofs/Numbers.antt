@@ -11,7 +11,7 @@ use Rattle.rules.specs.answers.Answers.{Told, answerBytes}
 use Rattle.rules.specs.answers.Promises.{Forward, Backward, Make, Check}
 use Rattle.rules.proofs.answers.Answers.{Fits, length-answerBytes, answerBytes-injective}
 use Rattle.rules.proofs.answers.Fits.{forward-fits, backward-fits, make-fits, check-fits}
-use Rattle.host.specs.Calls.{Telling, ForwardCall, BackwardCall, MakeCall, CheckCall}
+use Rattle.bezowik.specs.Calls.{Telling, ForwardCall, BackwardCall, MakeCall, CheckCall}
 
 -- the first twenty bytes are the answer's, and no other answer's
 telling-bytes : {answer : List ℕ} {a : Told} {r : ℕ} {answer′ : List ℕ} → Telling answer a r answer′ → take answerSize answer′ ≡ answerBytes a

@@ -5,9 +5,9 @@ use mathlib.Core.Path.{_≡_, refl}
 use lib.ListN.{length, length-set}
 use lib.Seq.{sets}
 use Rattle.rules.specs.answers.Answers.{lowFirst}
-use Rattle.host.proofs.Digits.{Putting, putting-none, putting-more, putting-all}
-use Rattle.host.proofs.answer.put.Statement.{statement}
-use Rattle.host.proofs.answer.put.Tie as tie
+use Rattle.bezowik.proofs.Digits.{Putting, putting-none, putting-more, putting-all}
+use Rattle.bezowik.proofs.answer.put.Statement.{statement}
+use Rattle.bezowik.proofs.answer.put.Tie as tie
 
 abbrev Inv-loop : tie.InvT-loop
 Inv-loop answer₀ from width value rest₀ k₀ answer rest k =

@@ -2,11 +2,11 @@
 -- written.
 use native.Mathlib.Omega.{arith}
 use denote.Ref.{now}
-use Rattle.host.specs.Calls.{toldOf}
-use Rattle.host.proofs.Telling.{host-short, host-told}
+use Rattle.bezowik.specs.Calls.{toldOf}
+use Rattle.bezowik.proofs.Telling.{host-short, host-told}
 use borrow.Author.Needs.{needs}
-use Rattle.host.proofs.bezowik_cost.Statement.{statement}
-use Rattle.host.proofs.bezowik_cost.Tie as tie
+use Rattle.bezowik.proofs.bezowik_cost.Statement.{statement}
+use Rattle.bezowik.proofs.bezowik_cost.Tie as tie
 
 returns : tie.Need-returns
 returns c = let a = c .before .before .before .before .args in host-short (now (a .set)) (now (a .trace)) (now (a .answer)) (c .if1 .taken)

@@ -1,11 +1,11 @@
 -- A short answer is refused before anything is touched; else the check's promise holds, and its answer is what is
 -- written.
 use denote.Ref.{now}
-use Rattle.host.specs.Calls.{toldOf}
-use Rattle.host.proofs.Telling.{check-short, check-called}
+use Rattle.bezowik.specs.Calls.{toldOf}
+use Rattle.bezowik.proofs.Telling.{check-short, check-called}
 use borrow.Author.Needs.{needs}
-use Rattle.host.proofs.bezowik_check.Statement.{statement}
-use Rattle.host.proofs.bezowik_check.Tie as tie
+use Rattle.bezowik.proofs.bezowik_check.Statement.{statement}
+use Rattle.bezowik.proofs.bezowik_check.Tie as tie
 
 returns : tie.Need-returns
 returns c =

@@ -17,7 +17,7 @@ use Rattle.rules.specs.answers.Refusals.{pass, refuse, orElse, fileVerdict, row
 use Rattle.rules.specs.answers.Answers.{Told, answerBytes}
 use Rattle.rules.specs.answers.Promises.{onPass, kept, answerOr, Forward, forwardTold, forwardVerdict, Backward, Make, Check, hostVerdict, hostTold, Host}
 use Rattle.rules.proofs.answers.Verdicts.{verdict-cases, refuse-orElse, orElse-right, refuseIf-true, refuseIf-false, refuseIf-pass}
-use Rattle.host.specs.Calls.{Telling, ForwardCall, BackwardCall, MakeCall, CheckCall}
+use Rattle.bezowik.specs.Calls.{Telling, ForwardCall, BackwardCall, MakeCall, CheckCall}
 
 -- a short buffer is refused and left as it was
 pub host-short : (s t answer : List ℕ) → length answer < answerSize → Host s t answer 17 answer

@@ -9,8 +9,8 @@ use borrow.Author.Tests.{ltb-true, ltb-false}
 use Rattle.rules.specs.sets.Limits.{answerSize}
 use Rattle.rules.specs.answers.Answers.{Told}
 use Rattle.rules.proofs.strings.Strings.{either}
-use Rattle.host.specs.declared.answer.Answer.{Answer}
-use Rattle.host.specs.Calls.{toldOf, Telling, ForwardCall, BackwardCall, MakeCall, CheckCall}
+use Rattle.bezowik.specs.declared.answer.Answer.{Answer}
+use Rattle.bezowik.specs.Calls.{toldOf, Telling, ForwardCall, BackwardCall, MakeCall, CheckCall}
 
 -- an answer's numbers are all that it has
 pub answer-determined : (a b : Answer) → toldOf a ≡ toldOf b → a ≡ b

@@ -2,8 +2,8 @@
 use mathlib.Core.Path.{sym, _∙_, ap}
 use borrow.Author.Needs.{needs}
 use Rattle.rules.specs.answers.Answers.{toldCounted}
-use Rattle.host.proofs.answer.from_counted.Statement.{statement}
-use Rattle.host.proofs.answer.from_counted.Tie as tie
+use Rattle.bezowik.proofs.answer.from_counted.Statement.{statement}
+use Rattle.bezowik.proofs.answer.from_counted.Tie as tie
 
 enum-known-counted : tie.Need-enum-known-counted
 enum-known-counted c = search needs

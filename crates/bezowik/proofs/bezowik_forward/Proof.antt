@@ -1,16 +1,16 @@
--- A short answer is refused before anything is touched; else the backward scan's promise holds, and its answer is
--- what is written.
+-- A short answer is refused before anything is touched; else the forward scan's promise holds, and its answer is what
+-- is written.
 use denote.Ref.{now}
-use Rattle.host.specs.Calls.{toldOf}
-use Rattle.host.proofs.Telling.{backward-short, backward-called}
+use Rattle.bezowik.specs.Calls.{toldOf}
+use Rattle.bezowik.proofs.Telling.{forward-short, forward-called}
 use borrow.Author.Needs.{needs}
-use Rattle.host.proofs.bezowik_backward.Statement.{statement}
-use Rattle.host.proofs.bezowik_backward.Tie as tie
+use Rattle.bezowik.proofs.bezowik_forward.Statement.{statement}
+use Rattle.bezowik.proofs.bezowik_forward.Tie as tie
 
 returns : tie.Need-returns
 returns c =
-    let a = c .before .before .before .before .before .before .before .before .args in
-    backward-short (now (a .set)) (c .if1 .taken) (now (a .trace)) (now (a .row-file)) (now (a .byte-file)) (now (a .workspace)) (now (a .hits))
+    let a = c .before .before .before .before .before .before .args in
+    forward-short (now (a .set)) (c .if1 .taken) (now (a .trace)) (now (a .workspace)) (now (a .hits))
 
 scan-requires : tie.Need-scan-requires
 scan-requires c κs = search needs
@@ -36,13 +36,13 @@ returns-2 c =
     let told = written .before .before in
     let scanned = told .before .before .before .before .before in
     let other = scanned .before .before .before in
-    let a = other .before .before .before .before .before .before .before .before .args in
-    backward-called (now (a .set)) (other .if1 .left) (toldOf (told .from-scanned .result)) (told .from-scanned .ensures)
+    let a = other .before .before .before .before .before .before .args in
+    forward-called (now (a .set)) (other .if1 .left) (toldOf (told .from-scanned .result)) (told .from-scanned .ensures)
     (written .write .ensures)
     (scanned .scan .ensures)
 
-pub bezowik-backward-spec : {M : Type 1} → statement M
-bezowik-backward-spec =
+pub bezowik-forward-spec : {M : Type 1} → statement M
+bezowik-forward-spec =
     tie.close
     (tie.spec
     returns

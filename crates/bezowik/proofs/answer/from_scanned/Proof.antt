@@ -2,8 +2,8 @@
 use mathlib.Core.Path.{sym, _∙_, ap}
 use borrow.Author.Needs.{needs}
 use Rattle.rules.specs.answers.Answers.{told}
-use Rattle.host.proofs.answer.from_scanned.Statement.{statement}
-use Rattle.host.proofs.answer.from_scanned.Tie as tie
+use Rattle.bezowik.proofs.answer.from_scanned.Statement.{statement}
+use Rattle.bezowik.proofs.answer.from_scanned.Tie as tie
 
 enum-known-scanned : tie.Need-enum-known-scanned
 enum-known-scanned c = search needs

@@ -2,8 +2,8 @@
 use mathlib.Core.Path.{ap₂}
 use borrow.Author.Needs.{needs}
 use Rattle.rules.specs.answers.Answers.{toldRefusal}
-use Rattle.host.proofs.answer.refused.Statement.{statement}
-use Rattle.host.proofs.answer.refused.Tie as tie
+use Rattle.bezowik.proofs.answer.refused.Statement.{statement}
+use Rattle.bezowik.proofs.answer.refused.Tie as tie
 
 number-of-requires : tie.Need-number-of-requires
 number-of-requires c κs = search needs

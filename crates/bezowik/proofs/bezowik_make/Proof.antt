@@ -1,10 +1,10 @@
 -- A short answer is refused before anything is touched; else making's promise holds, and its answer is what is written.
 use denote.Ref.{now}
-use Rattle.host.specs.Calls.{toldOf}
-use Rattle.host.proofs.Telling.{make-short, make-called}
+use Rattle.bezowik.specs.Calls.{toldOf}
+use Rattle.bezowik.proofs.Telling.{make-short, make-called}
 use borrow.Author.Needs.{needs}
-use Rattle.host.proofs.bezowik_make.Statement.{statement}
-use Rattle.host.proofs.bezowik_make.Tie as tie
+use Rattle.bezowik.proofs.bezowik_make.Statement.{statement}
+use Rattle.bezowik.proofs.bezowik_make.Tie as tie
 
 returns : tie.Need-returns
 returns c =

@@ -9,7 +9,7 @@ ghost use lib.Seq.{sets};
 ghost use Rattle.rules.specs.sets.Limits.{answerSize};
 ghost use Rattle.rules.specs.scans.Hits.{over};
 ghost use Rattle.rules.specs.answers.Answers.{numberOf, placeOf, told, toldRefusal, toldCounted, answerBytes, lowFirst};
-ghost use Rattle.host.specs.Calls.{toldOf};
+ghost use Rattle.bezowik.specs.Calls.{toldOf};
 
 // An answer: number 0 is no refusal.
 pub struct Answer {

@@ -8,7 +8,7 @@ use Rattle.rules.specs.sets.Limits.{answerSize}
 use Rattle.rules.specs.scans.Hits.{over}
 use Rattle.rules.specs.answers.Answers.{Told, answerBytes}
 use Rattle.rules.specs.answers.Promises.{Forward, Backward, Make, Check}
-use Rattle.host.specs.declared.answer.Answer.{Answer}
+use Rattle.bezowik.specs.declared.answer.Answer.{Answer}
 
 -- an answer's value in document 01's numbers
 abbrev pub toldOf : Answer → Told

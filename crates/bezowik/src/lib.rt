@@ -11,7 +11,7 @@ use rules::WORKSPACE;
 use skips::check;
 use skips::make;
 ghost use Rattle.rules.specs.answers.Promises.{Host};
-ghost use Rattle.host.specs.Calls.{ForwardCall, BackwardCall, MakeCall, CheckCall};
+ghost use Rattle.bezowik.specs.Calls.{ForwardCall, BackwardCall, MakeCall, CheckCall};
 
 // The cost of a trace: the forward scan's count, questions and energy, in an answer of twenty bytes. The result is
 // the refusal's number, or 0.
