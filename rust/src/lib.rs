@@ -4,7 +4,6 @@ pub mod measure;
 pub mod random;
 pub mod sets;
 pub mod slow;
-pub mod tool;
 
 /// The bytes of an answer, the most rows of a set, the numbers of a workspace that is enough for every set, the bytes of a keyword's record and of
 /// a row's, and those of a byte file.

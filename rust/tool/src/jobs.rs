@@ -1,13 +1,13 @@
 //! The five commands.
 
-use super::counts::{self, keywords, Found};
-use super::files::{distinct, read, read_tables, read_trace, Input};
-use super::outputs::write;
-use super::refusals::{accepted, Lent};
-use super::text::{columns, percent, shown};
-use super::{csv, Done, Failure};
-use crate::sets::Keyword;
-use crate::{RECORD, ROW};
+use crate::counts::{self, keywords, Found};
+use crate::files::{distinct, read, read_tables, read_trace, Input};
+use crate::outputs::write;
+use crate::refusals::{accepted, Lent};
+use crate::text::{columns, percent, shown};
+use crate::{csv, Done, Failure};
+use bezowik::sets::Keyword;
+use bezowik::{RECORD, ROW};
 use std::cmp::{Ordering, Reverse};
 use std::io::Write;
 use std::path::{Path, PathBuf};
@@ -17,7 +17,7 @@ pub(crate) fn set(from: &Path, to: &Path, out: &mut dyn Write) -> Done {
     distinct(&[from, to])?;
     let bytes = csv::set(&from.display().to_string(), &read(from)?.bytes).map_err(Failure::Refused)?;
     let made = Input { name: to.to_path_buf(), bytes };
-    accepted(crate::cost(&made.bytes, &[]), &Lent { set: &made, trace: None, tables: None })?;
+    accepted(bezowik::cost(&made.bytes, &[]), &Lent { set: &made, trace: None, tables: None })?;
     write(&[(to, &made.bytes)])?;
     writeln!(out, "{}: {} written", to.display(), counted(made.bytes.len() / RECORD, "keyword"))?;
     write!(out, "\n{}", listed(&keywords(&made.bytes)))?;
@@ -37,7 +37,7 @@ fn listed(keywords: &[Keyword]) -> String {
 pub(crate) fn tables(set: &Path, rows: &Path, bytes: &Path, out: &mut dyn Write) -> Done {
     distinct(&[set, rows, bytes])?;
     let set = read(set)?;
-    let table = match crate::make(&set.bytes) {
+    let table = match bezowik::make(&set.bytes) {
         Ok(table) => table,
         Err(refusal) => return accepted(refusal, &Lent { set: &set, trace: None, tables: None }).map(|_| ()),
     };
@@ -51,7 +51,7 @@ pub(crate) fn tables(set: &Path, rows: &Path, bytes: &Path, out: &mut dyn Write)
 pub(crate) fn check(set: &Path, rows: &Path, bytes: &Path, out: &mut dyn Write) -> Done {
     let set = read(set)?;
     let tables = read_tables(rows, bytes)?;
-    let checked = accepted(crate::check(&set.bytes, &tables.table), &Lent { set: &set, trace: None, tables: Some(&tables) })?;
+    let checked = accepted(bezowik::check(&set.bytes, &tables.table), &Lent { set: &set, trace: None, tables: Some(&tables) })?;
     writeln!(out, "the tables are safe for this set: {}", counted(checked.count as usize, "row"))?;
     Ok(())
 }

@@ -1,8 +1,8 @@
-//! The tool for bench engineers. All of it stands in `bezowik::tool`.
+//! The tool for bench engineers. All of it stands in `bezowik_tool`.
 
 use std::process::ExitCode;
 
 /// The tool, with the arguments of this process.
 fn main() -> ExitCode {
-    bezowik::tool::main()
+    bezowik_tool::main()
 }

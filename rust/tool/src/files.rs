@@ -1,7 +1,7 @@
 //! Files read, and names that are one file. A failure names the file.
 
-use super::{misuse, Failure};
-use crate::Table;
+use crate::{misuse, Failure};
+use bezowik::Table;
 use std::fs::{self, File};
 use std::io::Read;
 use std::os::unix::fs::MetadataExt;

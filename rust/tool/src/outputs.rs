@@ -1,7 +1,7 @@
 //! Files written, all that a command writes or none. A failure names the file.
 
-use super::files::read;
-use super::Failure;
+use crate::files::read;
+use crate::Failure;
 use std::fs::{self, File, OpenOptions};
 use std::io::{self, Seek, Write};
 use std::path::Path;

@@ -1,10 +1,10 @@
 //! A scan with its hits counted by keyword, and the progress that a terminal shows meanwhile.
 
-use super::files::{Input, Tables};
-use super::refusals::{accepted, Lent};
-use super::Failure;
-use crate::sets::Keyword;
-use crate::{Answer, RECORD, WORKSPACE};
+use crate::files::{Input, Tables};
+use crate::refusals::{accepted, Lent};
+use crate::Failure;
+use bezowik::sets::Keyword;
+use bezowik::{Answer, RECORD, WORKSPACE};
 use std::io::{self, IsTerminal, Write};
 
 /// A trace from which progress is shown, and the hits that are counted between two signs of it.
@@ -23,13 +23,13 @@ pub(crate) fn scan(set: &Input, trace: &Input, tables: Option<&Tables>) -> Resul
     let progress = Progress::of(trace);
     progress.show("scanning");
     let lent = Lent { set, trace: Some(trace), tables };
-    let count = accepted(crate::cost(&set.bytes, &trace.bytes), &lent)?.count;
+    let count = accepted(bezowik::cost(&set.bytes, &trace.bytes), &lent)?.count;
     let mut hits = vec![0; 2 * count as usize];
     let mut workspace = vec![0; WORKSPACE];
     progress.show("listing");
     let answer = match tables {
-        None => crate::forward(&set.bytes, &trace.bytes, &mut workspace, &mut hits),
-        Some(tables) => crate::backward(&set.bytes, &trace.bytes, &tables.table, &mut workspace, &mut hits),
+        None => bezowik::forward(&set.bytes, &trace.bytes, &mut workspace, &mut hits),
+        Some(tables) => bezowik::backward(&set.bytes, &trace.bytes, &tables.table, &mut workspace, &mut hits),
     };
     let answer = accepted(answer, &lent)?;
     let occurrences = occurrences(&hits, set.bytes.len() / RECORD, &progress);

@@ -1,7 +1,7 @@
 //! A keyword set from the lines of a csv.
 
-use super::text::shown;
-use crate::sets::record;
+use crate::text::shown;
+use bezowik::sets::record;
 
 /// The most wrong lines that are told one by one.
 const TOLD: usize = 20;

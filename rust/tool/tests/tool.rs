@@ -1,15 +1,16 @@
 //! The tool, run on real files in a folder of its own for each test.
 
+#[path = "../../tests/common/mod.rs"]
 mod common;
+mod folder;
 
 use bezowik::random::Random;
 use bezowik::sets::record;
 use bezowik::slow::{self, Way};
 use bezowik::{Table, BYTES, ROW};
 use common::{bench_set, random_set, random_trace, BENCH_TRACE};
-use std::ffi::OsString;
+use folder::{bench_table, Folder};
 use std::os::unix::fs::symlink;
-use std::path::PathBuf;
 use std::process::{Command, Stdio};
 
 const BENCH_CSV: &str = "\"LM\",40\n\"ALM\",55\n\"LMLA\",90\n";
@@ -27,97 +28,6 @@ no  keyword  occurrences  energy pJ  share %
  1  \"ALM\"              2        110     39.3
  2  \"LMLA\"             1         90     32.1
 ";
-
-/// A test's own folder, in which the tool runs. It goes when the test is over.
-struct Folder(PathBuf);
-
-impl Folder {
-    /// An empty folder.
-    fn new(test: &str) -> Folder {
-        let folder = std::env::temp_dir().join(format!("bezowik-tool-{}-{test}", std::process::id()));
-        std::fs::create_dir_all(&folder).expect("a folder can be made");
-        Folder(folder)
-    }
-
-    /// A folder with W, its tables and T.
-    fn bench(test: &str) -> Folder {
-        let folder = Folder::new(test);
-        folder.write("w.bin", &bench_set());
-        folder.write("t.bin", BENCH_TRACE);
-        folder.write_table(&bench_table());
-        folder
-    }
-
-    /// A file put into the folder.
-    fn write(&self, name: &str, bytes: &[u8]) {
-        std::fs::write(self.0.join(name), bytes).expect("a file can be written");
-    }
-
-    /// The two files of a table put into the folder.
-    fn write_table(&self, table: &Table) {
-        self.write("rows.bin", &table.rows);
-        self.write("bytes.bin", &table.bytes);
-    }
-
-    /// A file of the folder.
-    fn read(&self, name: &str) -> Vec<u8> {
-        std::fs::read(self.0.join(name)).expect("the file is there")
-    }
-
-    /// Whether the folder has a file of that name.
-    fn holds(&self, name: &str) -> bool {
-        self.0.join(name).exists()
-    }
-
-    /// The name and the bytes of every file of the folder, in the order of names.
-    fn listed(&self) -> Vec<(OsString, Option<Vec<u8>>)> {
-        let entries = std::fs::read_dir(&self.0).expect("the folder is there").map(|entry| entry.expect("an entry"));
-        let mut files: Vec<_> = entries.map(|entry| (entry.file_name(), std::fs::read(entry.path()).ok())).collect();
-        files.sort();
-        files
-    }
-
-    /// The tool's exit status, output and messages. The arguments stand in one text, with spaces between.
-    fn run(&self, arguments: &str) -> (i32, String, String) {
-        let mut command = Command::new(env!("CARGO_BIN_EXE_bezowik"));
-        let output = command.args(arguments.split_whitespace()).current_dir(&self.0).output().expect("the tool runs");
-        let text = |bytes: Vec<u8>| String::from_utf8(bytes).expect("the tool writes text");
-        (output.status.code().expect("the tool ends by itself"), text(output.stdout), text(output.stderr))
-    }
-
-    /// What a run that must succeed prints.
-    fn done(&self, arguments: &str) -> String {
-        let (status, out, told) = self.run(arguments);
-        assert_eq!((status, told.as_str()), (0, ""), "{arguments}");
-        out
-    }
-
-    /// What a run that must end with a status says, printing nothing.
-    fn fails(&self, status: i32, arguments: &str) -> String {
-        let (ended, out, told) = self.run(arguments);
-        assert_eq!((ended, out.as_str()), (status, ""), "{arguments}: {told}");
-        told
-    }
-
-    /// What a csv that must be refused is told, with no set written.
-    fn bad_csv(&self, csv: &[u8]) -> String {
-        self.write("from.csv", csv);
-        let told = self.fails(1, "set from.csv set.bin");
-        assert!(!self.holds("set.bin"));
-        told
-    }
-}
-
-impl Drop for Folder {
-    fn drop(&mut self) {
-        let _ = std::fs::remove_dir_all(&self.0);
-    }
-}
-
-/// W's table with the largest numbers.
-fn bench_table() -> Table {
-    bezowik::make(&bench_set()).expect("W passes")
-}
 
 #[test]
 fn bench_example() {
@@ -629,19 +539,6 @@ fn files_that_are_too_long() {
     // nor is it written over
     assert_eq!(folder.fails(2, "tables w.bin n.bin long.bin"), told("long.bin"));
     assert!(!folder.holds("n.bin") && folder.read("long.bin").len() == (16 << 20) + 1);
-}
-
-/// Without the static library the build says what makes it, and where it was looked for.
-#[test]
-fn build_without_the_library() {
-    let folder = Folder::new("build_without_the_library");
-    let mut cargo = Command::new(env!("CARGO"));
-    cargo.args(["check", "--offline", "--quiet", "--lib", "--target-dir"]).arg(folder.0.join("target"));
-    cargo.current_dir(env!("CARGO_MANIFEST_DIR")).env("BEZOWIK_LIB", &folder.0);
-    let output = cargo.output().expect("cargo runs");
-    let told = String::from_utf8_lossy(&output.stderr);
-    let expected = format!("no libbezowik.a in {}: run `rt staticlib bezowik` first\n", folder.0.display());
-    assert!(!output.status.success() && told.contains(&expected), "{told}");
 }
 
 #[test]

@@ -1,9 +1,9 @@
 //! A refusal as a person reads it: the file, the number, the place, and a sentence that says what is wrong there.
 
-use super::files::{Input, Tables};
-use super::text::{hex, shown, suffix};
-use super::Failure;
-use crate::{Answer, Table, BYTES, RECORD, ROW, ROWS};
+use crate::files::{Input, Tables};
+use crate::text::{hex, shown, suffix};
+use crate::Failure;
+use bezowik::{Answer, Table, BYTES, RECORD, ROW, ROWS};
 use std::path::Path;
 
 /// Refusal 8. The longest keyword has 15 bytes, so that one which a cut divides stands whole in the part behind the cut.
@@ -98,7 +98,7 @@ fn of_bytes(number: u16, place: usize, set: &[u8], lent: &Table) -> String {
 
 /// The table with the largest safe numbers, of a set that has passed its tests.
 fn largest(set: &[u8]) -> Table {
-    crate::make(set).expect("a refusal of a table comes after the tests of the set")
+    bezowik::make(set).expect("a refusal of a table comes after the tests of the set")
 }
 
 /// A number of a record that does not name its row, beside the row's largest safe one. It is not judged: it was not made for this row.
