@@ -2,11 +2,15 @@
  *
  *     host SET.bin TRACE.bin
  *
- * Prints at most the first 4,096 hits. Exit status 0; 1 for a refusal; 2 for bad usage, or where a file cannot be read. */
+ * Prints at most the first 4,096 hits; or a refusal's number and place, and what it means on stderr. Exit status 0; 1
+ * for a refusal; 2 for bad usage, or where a file cannot be read. */
 #include "bezowik.h"
 
 #include <stdio.h>
 #include <stdlib.h>
+
+/* The most hits that are printed. */
+#define SHOWN 4096
 
 /* The bytes of a file in fresh memory, and how many there are; null where it cannot be read whole. */
 static uint8_t *load(const char *path, size_t *bytes)
@@ -35,10 +39,11 @@ static uint8_t *load(const char *path, size_t *bytes)
 int main(int argc, char **argv)
 {
     static uint16_t workspace[BEZOWIK_WORKSPACE];
-    static uint32_t hits[2 * 4096];
+    static uint32_t hits[2 * SHOWN];
     uint8_t answer[BEZOWIK_ANSWER];
     uint8_t *set, *trace;
     size_t set_bytes, trace_bytes, shown, i;
+    unsigned result;
 
     if (argc != 3) {
         fprintf(stderr, "usage: host SET.bin TRACE.bin\n");
@@ -52,17 +57,19 @@ int main(int argc, char **argv)
         free(trace);
         return 2;
     }
-    if (bezowik_forward(set, set_bytes, trace, trace_bytes, workspace, BEZOWIK_WORKSPACE, hits, 2 * 4096, answer, sizeof answer)
-        != BEZOWIK_DONE) {
-        printf("refusal %u %u\n", (unsigned)bezowik_number(answer), (unsigned)bezowik_place(answer));
+    result = bezowik_forward(set, set_bytes, trace, trace_bytes, workspace, BEZOWIK_WORKSPACE, hits, 2 * SHOWN,
+                             answer, sizeof answer);
+    if (result != BEZOWIK_DONE) {
+        printf("refusal %u %u\n", result, (unsigned)bezowik_place(answer));
+        fprintf(stderr, "host: %s\n", bezowik_message(result));
     } else {
         printf("count %lu energy %llu questions %lu\n", (unsigned long)bezowik_count(answer),
                (unsigned long long)bezowik_energy(answer), (unsigned long)bezowik_questions(answer));
-        shown = bezowik_count(answer) < 4096 ? bezowik_count(answer) : 4096;
+        shown = bezowik_count(answer) < SHOWN ? bezowik_count(answer) : SHOWN;
         for (i = 0; i < shown; i++)
             printf("%lu %lu\n", (unsigned long)hits[2 * i], (unsigned long)hits[2 * i + 1]);
     }
     free(set);
     free(trace);
-    return bezowik_number(answer) == BEZOWIK_DONE ? 0 : 1;
+    return result == BEZOWIK_DONE ? 0 : 1;
 }

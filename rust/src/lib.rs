@@ -5,6 +5,15 @@ pub mod random;
 pub mod sets;
 pub mod slow;
 
+/// The limits: the most bytes of a trace, the most keywords of a set, the most bytes of a keyword and its most energy.
+pub const TRACE: usize = 1_048_576;
+pub const KEYWORDS: usize = 64;
+pub const LONGEST: usize = 15;
+pub const ENERGY: u64 = 65_535;
+
+/// The bytes by which a part of a longer trace reaches back behind the cut: a keyword that the cut divides stands whole in the later part.
+pub const OVERLAP: usize = LONGEST - 1;
+
 /// The bytes of an answer, the most rows of a set, the numbers of a workspace that is enough for every set, the bytes of a keyword's record and of
 /// a row's, and those of a byte file.
 pub const ANSWER: usize = 20;

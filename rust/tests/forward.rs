@@ -195,3 +195,37 @@ fn parts_of_a_trace() {
     println!("with 13 bytes shared, {lost} traces lost hits");
     assert!(lost > 20);
 }
+
+/// Count and energy of a trace in parts, as the header words it: the sums over the parts, each later part begun so many bytes before the cut,
+/// less the cost of its first so many bytes alone.
+fn cost_in_parts(random: &mut Random, set: &[u8], trace: &[u8], shared: usize) -> (u32, u64) {
+    let cost = |part: &[u8]| bezowik::cost(set, part);
+    let mut cut = trace.len().min(shared + random.below(60));
+    let first = cost(&trace[..cut]);
+    let (mut count, mut energy) = (first.count, first.energy);
+    while cut < trace.len() {
+        let to = trace.len().min(cut + 1 + random.below(60));
+        let (part, less) = (cost(&trace[cut - shared..to]), cost(&trace[cut - shared..cut]));
+        count += part.count - less.count;
+        energy += part.energy - less.energy;
+        cut = to;
+    }
+    (count, energy)
+}
+
+/// What the header says of a trace that is too long, beside the slow count of the whole. With 13 bytes for 14 some hits are lost.
+#[test]
+fn cut_traces() {
+    let mut lost = 0;
+    for seed in 8300..8600 {
+        println!("seed {seed}");
+        let mut random = Random::new(seed);
+        let (set, trace) = set_and_trace(&mut random);
+        let keywords = slow::keywords(&set, slow::Way::Forward).expect("the set passes its tests");
+        let whole = slow::found(&keywords, &slow::hits(&keywords, &trace), 0);
+        assert_eq!(cost_in_parts(&mut random, &set, &trace, bezowik::OVERLAP), (whole.count, whole.energy));
+        lost += usize::from(cost_in_parts(&mut random, &set, &trace, bezowik::OVERLAP - 1) != (whole.count, whole.energy));
+    }
+    println!("with 13 bytes before the cut, {lost} traces lost hits");
+    assert!(lost > 20);
+}
