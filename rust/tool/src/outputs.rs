@@ -1,91 +1,188 @@
-//! Files written, all that a command writes or none. A failure names the file.
+//! Files written beside their places and renamed over them: at each place is the old file or the new one, whole. A
+//! failure names the file.
 
-use crate::files::read;
+use crate::files::{is_standard, place, same};
+use crate::kinds::{kind, Kind, LONGEST};
+use crate::text::shown_name;
 use crate::Failure;
-use std::fs::{self, File, OpenOptions};
-use std::io::{self, Seek, Write};
-use std::path::Path;
+use std::collections::hash_map::RandomState;
+use std::fs::{self, File, Metadata, OpenOptions};
+use std::hash::{BuildHasher, Hasher};
+use std::io::{self, ErrorKind, Read, Write};
+use std::os::unix::fs::{fchown, FileTypeExt, MetadataExt};
+use std::path::{Path, PathBuf};
+use tempfile::TempPath;
 
-/// What a file was before it was opened to be written.
-enum Before {
-    /// Not there.
-    Missing,
-    /// An ordinary file that held these bytes.
-    Held(Vec<u8>),
-    /// A device or a pipe, of which nothing can be taken back.
-    Stream,
+/// The names that are tried for a file beside its place, and the letters of the output's name that stand in them: with
+/// all of a long name they would be too long for the system.
+const TRIES: usize = 100;
+const LETTERS: usize = 48;
+
+/// A file that a command writes: its name, which is `-` for standard output, what it holds, and its bytes.
+pub struct Output<'a> {
+    pub name: &'a Path,
+    pub kind: Kind,
+    pub bytes: &'a [u8],
 }
 
-/// A file that is opened to be written.
-struct Output<'a> {
-    name: &'a Path,
-    before: Before,
-    file: File,
-    changed: bool,
+/// The place of an ordinary file, and what is known of the file that is there.
+struct Place {
+    path: PathBuf,
+    old: Option<Metadata>,
 }
 
-/// Files written, whole. Where one cannot be written, all are left as they were.
-pub(crate) fn write(files: &[(&Path, &[u8])]) -> Result<(), Failure> {
-    let mut outputs = Vec::new();
-    let done = write_into(&mut outputs, files);
-    if done.is_err() {
-        outputs.into_iter().for_each(Output::put_back);
+/// Files written, all or none: they are renamed over their places when the bytes of all are on the disk, and streams
+/// have taken theirs. A file that is there and not of its output's kind is replaced only by force.
+pub fn write(files: &[Output], force: bool) -> Result<(), Failure> {
+    let places = files.iter().map(|file| tested(file, force)).collect::<Result<Vec<_>, _>>()?;
+    let (mut ready, mut streams) = (Vec::new(), Vec::new());
+    for (file, place) in files.iter().zip(places) {
+        match place {
+            Some(place) => ready.push((file.name, beside(file, &place)?, place.path)),
+            None => streams.push(file),
+        }
     }
+    let mut written = Vec::new();
+    for file in streams {
+        stream(file).map_err(|error| unwritten(file.name, &error, &written))?;
+        written.push(file.name);
+    }
+    let folders = ready.iter().filter_map(|(_, _, path)| path.parent().map(Path::to_path_buf)).collect();
+    let done = rename(ready, written);
+    keep_names(folders);
     done
 }
 
-/// Files opened, and written when all are open.
-fn write_into<'a>(outputs: &mut Vec<Output<'a>>, files: &[(&'a Path, &[u8])]) -> Result<(), Failure> {
-    for (name, _) in files {
-        outputs.push(Output::open(name)?);
-    }
-    for (output, (name, bytes)) in outputs.iter_mut().zip(files) {
-        output.fill(bytes).map_err(|error| unwritten(name, &error))?;
+/// New files renamed over their places. Where one cannot be, the failure tells what is written by then.
+fn rename<'a>(ready: Vec<(&'a Path, TempPath, PathBuf)>, mut written: Vec<&'a Path>) -> Result<(), Failure> {
+    for (name, new, path) in ready {
+        new.persist(path).map_err(|failed| unwritten(name, &failed.error, &written))?;
+        written.push(name);
     }
     Ok(())
 }
 
-/// That a file cannot be written.
-fn unwritten(name: &Path, error: &io::Error) -> Failure {
-    Failure::File(format!("{}: cannot be written: {error}", name.display()))
-}
-
-impl Output<'_> {
-    /// A file opened, and made where it was not there. What it holds is not changed.
-    fn open(name: &Path) -> Result<Output<'_>, Failure> {
-        let before = match fs::metadata(name) {
-            Ok(found) if found.is_file() => Before::Held(read(name)?.bytes),
-            Ok(_) => Before::Stream,
-            Err(_) => Before::Missing,
-        };
-        let opened = OpenOptions::new().write(true).create(true).truncate(false).open(name);
-        let file = opened.map_err(|error| unwritten(name, &error))?;
-        Ok(Output { name, before, file, changed: false })
+/// The place of an output, none where that is a stream, after all that can be told before anything is written.
+fn tested(file: &Output, force: bool) -> Result<Option<Place>, Failure> {
+    let failed = |error: io::Error| unwritten(file.name, &error, &[]);
+    if is_standard(file.name) {
+        return Ok(None);
     }
-
-    /// New bytes in the file.
-    fn fill(&mut self, bytes: &[u8]) -> io::Result<()> {
-        self.changed = true;
-        match self.before {
-            Before::Stream => self.file.write_all(bytes),
-            _ => replace(&mut self.file, bytes),
+    let old = match fs::metadata(file.name) {
+        Ok(found) if found.is_dir() => return Err(failed(ErrorKind::IsADirectory.into())),
+        Ok(found) if found.is_file() => Some(found),
+        Ok(found) if found.file_type().is_block_device() && !force => {
+            return Err(Failure::File(format!(
+                "{}: is a disk, and is not overwritten; --force overwrites it",
+                shown_name(file.name)
+            )));
+        }
+        Ok(_) => return Ok(None),
+        Err(error) if error.kind() == ErrorKind::NotFound => None,
+        Err(error) => return Err(failed(error)),
+    };
+    let path = place(file.name).map_err(failed)?;
+    if let Some(old) = &old {
+        // a file that its owner has protected is not replaced either
+        OpenOptions::new().write(true).open(file.name).map_err(failed)?;
+        if !force {
+            replaceable(file, old.len())?;
+        }
+        // a link of /proc to a file that has no name any more leads to no place
+        if !same(file.name, &path) {
+            return Ok(None);
         }
     }
+    Ok(Some(Place { path, old }))
+}
 
-    /// The file as it was before, as far as the system lets it be.
-    fn put_back(mut self) {
-        let _ = match self.before {
-            // where the name is a link, what was made is the file that it points to
-            Before::Missing => self.name.canonicalize().and_then(fs::remove_file),
-            Before::Held(bytes) if self.changed => replace(&mut self.file, &bytes),
-            _ => Ok(()),
-        };
+/// Refuses to replace a file of so many bytes that is not of its output's kind. With one of no bytes nothing is lost.
+fn replaceable(file: &Output, size: u64) -> Result<(), Failure> {
+    let (name, kind_name) = (shown_name(file.name), file.kind.name());
+    let refused = |why: String| Failure::File(format!("{name}: {why}; --force replaces it"));
+    let mut bytes = Vec::with_capacity(LONGEST as usize + 1);
+    if size > 0 && file.kind.size_fits(size) {
+        let read = File::open(file.name).and_then(|opened| opened.take(LONGEST + 1).read_to_end(&mut bytes));
+        read.map_err(|error| refused(format!("cannot be read, to see whether it is {kind_name}: {error}")))?;
+    }
+    match size == 0 || kind(&bytes) == Some(file.kind) {
+        true => Ok(()),
+        false => Err(refused(format!("is not {kind_name}, and is not replaced"))),
     }
 }
 
-/// New bytes in place of all that an ordinary file holds.
-fn replace(file: &mut File, bytes: &[u8]) -> io::Result<()> {
-    file.set_len(0)?;
-    file.rewind()?;
-    file.write_all(bytes)
+/// A new file beside its place, with its bytes on the disk. It goes where it is not renamed.
+fn beside(file: &Output, place: &Place) -> Result<TempPath, Failure> {
+    let made = created(&place.path).and_then(|(mut new, path)| {
+        // the rights come first: what nobody else may read is never there to be read
+        place.old.as_ref().map_or(Ok(()), |old| keep_rights(&new, old))?;
+        new.write_all(file.bytes)?;
+        new.sync_all()?;
+        Ok(path)
+    });
+    made.map_err(|error| unwritten(file.name, &error, &[]))
+}
+
+/// A new file in the folder of a place, whose name tells what it was to be: `.NAME.RANDOM.new`. Its permissions are
+/// those of any new file.
+fn created(place: &Path) -> io::Result<(File, TempPath)> {
+    let name: String = place.file_name().unwrap_or_default().to_string_lossy().chars().take(LETTERS).collect();
+    let mut failed = io::Error::from(ErrorKind::AlreadyExists);
+    for _ in 0..TRIES {
+        let random = RandomState::new().build_hasher().finish();
+        let path = place.with_file_name(format!(".{name}.{random:016x}.new"));
+        match OpenOptions::new().write(true).create_new(true).open(&path) {
+            Ok(file) => return Ok((file, TempPath::from_path(path))),
+            Err(error) if error.kind() == ErrorKind::AlreadyExists => failed = error,
+            Err(error) => return Err(error),
+        }
+    }
+    Err(failed)
+}
+
+/// The permissions of a file that is replaced given to the new one, and its owner and its group as far as the system
+/// allows.
+fn keep_rights(new: &File, old: &Metadata) -> io::Result<()> {
+    let made = new.metadata()?;
+    if made.gid() != old.gid() {
+        let _ = fchown(new, None, Some(old.gid()));
+    }
+    if made.uid() != old.uid() {
+        let _ = fchown(new, Some(old.uid()), None);
+    }
+    match made.permissions() == old.permissions() {
+        true => Ok(()),
+        false => new.set_permissions(old.permissions()),
+    }
+}
+
+/// An output that is no ordinary file, written directly.
+fn stream(file: &Output) -> io::Result<()> {
+    if is_standard(file.name) {
+        let mut out = io::stdout().lock();
+        out.write_all(file.bytes)?;
+        return out.flush();
+    }
+    OpenOptions::new().write(true).truncate(true).open(file.name)?.write_all(file.bytes)
+}
+
+/// The new names of files put on the disk. Where a folder cannot do it, a power cut may bring the old files back,
+/// whole.
+fn keep_names(mut folders: Vec<PathBuf>) {
+    folders.sort();
+    folders.dedup();
+    for folder in folders {
+        let _ = File::open(folder).and_then(|opened| opened.sync_all());
+    }
+}
+
+/// That an output cannot be written, and which others are.
+fn unwritten(name: &Path, error: &io::Error, written: &[&Path]) -> Failure {
+    let shown = |name: &Path| match is_standard(name) {
+        true => "standard output".to_string(),
+        false => shown_name(name),
+    };
+    let others: Vec<String> = written.iter().map(|name| shown(name)).collect();
+    let behind = if others.is_empty() { String::new() } else { format!("; already written: {}", others.join(", ")) };
+    Failure::File(format!("{}: cannot be written: {error}{behind}", shown(name)))
 }

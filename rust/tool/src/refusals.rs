@@ -1,29 +1,32 @@
 //! A refusal as a person reads it: the file, the number, the place, and a sentence that says what is wrong there.
 
+use crate::faults::byte_shown;
 use crate::files::{Input, Tables};
-use crate::text::{hex, shown, suffix};
+use crate::text::{hex, shown, shown_name, suffix};
 use crate::Failure;
 use bezowik::{Answer, Table, BYTES, RECORD, ROW, ROWS};
 use std::path::Path;
 
-/// Refusal 8. The longest keyword has 15 bytes, so that one which a cut divides stands whole in the part behind the cut.
-const TOO_LONG: &str = "the trace has over 1,048,576 bytes: scan it in parts that each begin 14 bytes before the end of the part before, \
-and leave out a later part's hits that end within its first 14 bytes";
+/// Refusal 8. The longest keyword has 15 bytes, so that one which a cut divides stands whole in the part behind the
+/// cut.
+const TOO_LONG: &str = "the trace has over 1,048,576 bytes: cut it into parts, and begin each later part 14 bytes \
+before the cut; the count and the energy of the whole are the sums over the parts, less those of each later part's \
+first 14 bytes alone";
 
 /// What the library was lent in the call that it answered.
-pub(crate) struct Lent<'a> {
+pub struct Lent<'a> {
     pub set: &'a Input,
     pub trace: Option<&'a Input>,
     pub tables: Option<&'a Tables>,
 }
 
 /// The answer where it is no refusal, else the refusal in words.
-pub(crate) fn accepted(answer: Answer, lent: &Lent) -> Result<Answer, Failure> {
+pub fn accepted(answer: Answer, lent: &Lent) -> Result<Answer, Failure> {
     if answer.number == 0 {
         return Ok(answer);
     }
     let (file, sentence) = explained(answer, lent);
-    Err(Failure::Refused(format!("{}: refusal {} place {}: {sentence}", file.display(), answer.number, answer.place)))
+    Err(Failure::Refused(format!("{}: refusal {} place {}: {sentence}", shown_name(file), answer.number, answer.place)))
 }
 
 /// The file that a refusal is about, and the sentence.
@@ -33,7 +36,9 @@ fn explained<'a>(answer: Answer, lent: &Lent<'a>) -> (&'a Path, String) {
         (1..=7, _, _) => (&lent.set.name, of_set(answer.number, place, &lent.set.bytes)),
         (8, Some(trace), _) => (&trace.name, TOO_LONG.to_string()),
         (10..=12, _, Some(tables)) => (&tables.row_name, of_rows(answer.number, place, &lent.set.bytes, &tables.table)),
-        (13..=14, _, Some(tables)) => (&tables.byte_name, of_bytes(answer.number, place, &lent.set.bytes, &tables.table)),
+        (13..=14, _, Some(tables)) => {
+            (&tables.byte_name, of_bytes(answer.number, place, &lent.set.bytes, &tables.table))
+        }
         // the tool lends room for every set, so the library has no cause for any other
         _ => (&lent.set.name, "the tool lent too little room, which is a fault of the tool".to_string()),
     }
@@ -46,10 +51,16 @@ fn of_set(number: u16, place: usize, set: &[u8]) -> String {
         2 => format!("the set has {} bytes, no multiple of 18: the file is cut short or is no keyword set", set.len()),
         3 => format!("the set has {} records, more than 64: split it", set.len() / RECORD),
         4 => format!("record {place} has the length {}, and a keyword has 1 to 15 bytes", record(set, place)[0]),
-        5 => format!("record {place}, keyword {}: the bytes behind the keyword, up to byte 15, must be zero", shown(word(set, place))),
+        5 => format!(
+            "record {place}, keyword {}: the bytes behind the keyword, up to byte 15, must be zero",
+            shown(word(set, place))
+        ),
         6 => {
             let earlier = (0..place).find(|&i| word(set, i) == word(set, place)).unwrap_or(0);
-            format!("record {place} has the same bytes as record {earlier}, {}: take one of the two out", shown(word(set, place)))
+            format!(
+                "record {place} has the same bytes as record {earlier}, {}: take one of the two out",
+                shown(word(set, place))
+            )
         }
         _ => format!("the set has over {ROWS} rows"),
     }
@@ -70,13 +81,16 @@ fn word(set: &[u8], place: usize) -> &[u8] {
 fn of_rows(number: u16, place: usize, set: &[u8], lent: &Table) -> String {
     if number == 10 {
         let (has, needs) = (lent.rows.len(), ROW * place);
-        return format!("the row file has {has} bytes, and this set's {place} rows need exactly {needs}: make the tables again for this set");
+        let sizes = format!("the row file has {has} bytes, and this set's {place} rows need exactly {needs}");
+        return format!("{sizes}: make the tables again for this set");
     }
     let largest = largest(set);
     let found = &lent.rows[ROW * place..ROW * (place + 1)];
     let most = &largest.rows[ROW * place..ROW * (place + 1)];
     let row = suffix(&most[1..1 + most[0] as usize]);
-    let both = |told: fn(&str, u8, u8) -> String| format!("{}\n  {}", told("inner", found[16], most[16]), told("edge", found[17], most[17]));
+    let both = |told: fn(&str, u8, u8) -> String| {
+        format!("{}\n  {}", told("inner", found[16], most[16]), told("edge", found[17], most[17]))
+    };
     match number {
         11 => {
             let sentence = format!("row {place} is {row}, but its record names {}", named(found));
@@ -89,7 +103,10 @@ fn of_rows(number: u16, place: usize, set: &[u8], lent: &Table) -> String {
 /// The refusals 13 and 14, beside the table with the largest numbers.
 fn of_bytes(number: u16, place: usize, set: &[u8], lent: &Table) -> String {
     if number == 13 {
-        return format!("the byte file has {} bytes, and it must have exactly {BYTES}: make the tables again", lent.bytes.len());
+        return format!(
+            "the byte file has {} bytes, and it must have exactly {BYTES}: make the tables again",
+            lent.bytes.len()
+        );
     }
     let (byte, depth) = ((place / 16) as u8, place % 16);
     let numbers = judged("far", lent.bytes[place], largest(set).bytes[place]);
@@ -101,7 +118,8 @@ fn largest(set: &[u8]) -> Table {
     bezowik::make(set).expect("a refusal of a table comes after the tests of the set")
 }
 
-/// A number of a record that does not name its row, beside the row's largest safe one. It is not judged: it was not made for this row.
+/// A number of a record that does not name its row, beside the row's largest safe one. It is not judged: it was not
+/// made for this row.
 fn beside(name: &str, found: u8, most: u8) -> String {
     format!("{name} is {found}; the largest safe number of this row is {most}")
 }
@@ -121,13 +139,5 @@ fn named(record: &[u8]) -> String {
     match n <= 15 && record[1 + n..16].iter().all(|&b| b == 0) {
         true => suffix(&record[1..1 + n]),
         false => format!("no suffix ({})", hex(&record[..16])),
-    }
-}
-
-/// One byte, in hex, and as text where it has one.
-fn byte_shown(byte: u8) -> String {
-    match byte.is_ascii_graphic() {
-        true => format!("{byte:02x} ({})", char::from(byte)),
-        false => format!("{byte:02x}"),
     }
 }

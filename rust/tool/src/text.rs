@@ -1,29 +1,74 @@
-//! How keywords, percentages and tables look.
+//! How names, keywords, percentages and tables look.
 
-/// A keyword as people read it: in double quotes where every byte is printable ASCII and neither quote nor backslash, else in hex.
-pub(crate) fn shown(word: &[u8]) -> String {
-    let plain = |b: &u8| matches!(b, b' '..=b'~') && *b != b'"' && *b != b'\\';
-    match word.iter().all(plain) {
-        true => format!("\"{}\"", String::from_utf8_lossy(word)),
-        false => hex(word),
+use std::path::Path;
+
+/// A name from an argument or a file, with nothing in it that a terminal would obey.
+pub fn shown_name(name: &Path) -> String {
+    plain(&name.to_string_lossy())
+}
+
+/// Text with its control characters, and those that turn the direction of writing, as escapes.
+pub fn plain(text: &str) -> String {
+    let mut shown = String::new();
+    for c in text.chars() {
+        match c {
+            c if c.is_ascii_control() => shown.push_str(&format!("\\x{:02x}", u32::from(c))),
+            '\u{200e}' | '\u{200f}' | '\u{2028}' | '\u{2029}' | '\u{202a}'..='\u{202e}' | '\u{2066}'..='\u{2069}' => {
+                shown.extend(c.escape_unicode());
+            }
+            c if c.is_control() => shown.extend(c.escape_unicode()),
+            c => shown.push(c),
+        }
+    }
+    shown
+}
+
+/// A name as a shell reads it back.
+pub fn shell_name(name: &Path) -> String {
+    let text = shown_name(name);
+    let bare = |c: char| c.is_alphanumeric() || matches!(c, '/' | '.' | '-' | '_' | '+' | ',' | ':' | '@' | '%' | '=');
+    match !text.is_empty() && text.chars().all(bare) {
+        true => text,
+        false => format!("'{}'", text.replace('\'', "'\\''")),
     }
 }
 
 /// Bytes in hex, with a space between.
-pub(crate) fn hex(bytes: &[u8]) -> String {
+pub fn hex(bytes: &[u8]) -> String {
     bytes.iter().map(|b| format!("{b:02x}")).collect::<Vec<_>>().join(" ")
 }
 
-/// A row's suffix as people read it.
-pub(crate) fn suffix(word: &[u8]) -> String {
+/// Bytes as text, where each is printable ASCII.
+pub fn text(bytes: &[u8]) -> Option<String> {
+    bytes.iter().all(|b| matches!(b, b' '..=b'~')).then(|| String::from_utf8_lossy(bytes).into_owned())
+}
+
+/// A keyword in a sentence: its bytes, and its text where it has one.
+pub fn shown(word: &[u8]) -> String {
+    match text(word) {
+        Some(text) => format!("{} ({text})", hex(word)),
+        None => hex(word),
+    }
+}
+
+/// A row's suffix in a sentence.
+pub fn suffix(word: &[u8]) -> String {
     match word {
         [] => "the empty suffix".to_string(),
         _ => format!("suffix {}", shown(word)),
     }
 }
 
+/// A number of things.
+pub fn counted(n: usize, thing: &str) -> String {
+    match n {
+        1 => format!("1 {thing}"),
+        _ => format!("{n} {thing}s"),
+    }
+}
+
 /// A part of a whole in percent, rounded to one decimal, but 100.0 for the whole alone; no number where the whole is 0.
-pub(crate) fn percent(part: u64, whole: u64) -> String {
+pub fn percent(part: u64, whole: u64) -> String {
     if whole == 0 {
         return "-".to_string();
     }
@@ -32,18 +77,26 @@ pub(crate) fn percent(part: u64, whole: u64) -> String {
     format!("{}.{}", tenths / 10, tenths % 10)
 }
 
-/// Lines of cells as one text, each column as wide as its widest cell. The column at `left` is put to the left, the others to the right.
-pub(crate) fn columns<const N: usize>(lines: &[[String; N]], left: usize) -> String {
-    let width = |column: usize| lines.iter().map(|line| line[column].len()).max().unwrap_or(0);
-    let widths: [usize; N] = std::array::from_fn(width);
+/// Lines of cells as one text, each column as wide as its widest cell. The columns named `left` are put to the left,
+/// the others to the right.
+pub fn columns(lines: &[Vec<String>], left: &[&str]) -> String {
+    let heads = lines.first().map_or(&[][..], |heads| heads);
+    let cell = |line: &Vec<String>, i: usize| line.get(i).cloned().unwrap_or_default();
+    let widths: Vec<usize> =
+        (0..heads.len()).map(|i| lines.iter().map(|line| cell(line, i).chars().count()).max().unwrap_or(0)).collect();
     let mut text = String::new();
     for line in lines {
-        let cells: [String; N] = std::array::from_fn(|i| match i == left {
-            true => format!("{:<1$}", line[i], widths[i]),
-            false => format!("{:>1$}", line[i], widths[i]),
+        let padded = heads.iter().enumerate().map(|(i, head)| match left.contains(&head.as_str()) {
+            true => format!("{:<1$}", cell(line, i), widths[i]),
+            false => format!("{:>1$}", cell(line, i), widths[i]),
         });
-        text.push_str(cells.join("  ").trim_end());
+        text.push_str(padded.collect::<Vec<_>>().join("  ").trim_end());
         text.push('\n');
     }
     text
+}
+
+/// Cells as strings.
+pub fn cells(cells: &[&str]) -> Vec<String> {
+    cells.iter().map(|cell| cell.to_string()).collect()
 }

@@ -4,8 +4,9 @@
 use crate::common::{bench_set, BENCH_TRACE};
 use bezowik::Table;
 use std::ffi::OsString;
+use std::io::Write;
 use std::path::PathBuf;
-use std::process::Command;
+use std::process::{Command, Stdio};
 
 /// A test's own folder, in which the tool runs. It goes when the test is over.
 pub struct Folder(pub PathBuf);
@@ -58,10 +59,32 @@ impl Folder {
 
     /// The tool's exit status, output and messages. The arguments stand in one text, with spaces between.
     pub fn run(&self, arguments: &str) -> (i32, String, String) {
-        let mut command = Command::new(env!("CARGO_BIN_EXE_bezowik"));
-        let output = command.args(arguments.split_whitespace()).current_dir(&self.0).output().expect("the tool runs");
+        self.run_with(&arguments.split_whitespace().collect::<Vec<_>>())
+    }
+
+    /// The same for arguments that may hold anything.
+    pub fn run_with(&self, arguments: &[&str]) -> (i32, String, String) {
+        let output = self.tool(arguments).output().expect("the tool runs");
         let text = |bytes: Vec<u8>| String::from_utf8(bytes).expect("the tool writes text");
         (output.status.code().expect("the tool ends by itself"), text(output.stdout), text(output.stderr))
+    }
+
+    /// The tool, fed with bytes on standard input: its exit status, output and messages.
+    pub fn fed(&self, arguments: &str, bytes: &[u8]) -> (i32, Vec<u8>, String) {
+        let mut command = self.tool(&arguments.split_whitespace().collect::<Vec<_>>());
+        let streams = command.stdin(Stdio::piped()).stdout(Stdio::piped()).stderr(Stdio::piped());
+        let mut tool = streams.spawn().expect("the tool runs");
+        tool.stdin.take().expect("a pipe").write_all(bytes).expect("the tool reads");
+        let output = tool.wait_with_output().expect("the tool ends");
+        let told = String::from_utf8(output.stderr).expect("the tool writes text");
+        (output.status.code().expect("the tool ends by itself"), output.stdout, told)
+    }
+
+    /// The tool with some arguments, in this folder.
+    pub fn tool(&self, arguments: &[&str]) -> Command {
+        let mut command = Command::new(env!("CARGO_BIN_EXE_bezowik"));
+        command.args(arguments).current_dir(&self.0);
+        command
     }
 
     /// What a run that must succeed prints.

@@ -1,0 +1,242 @@
+//! The commands and their options, as people type them.
+
+use clap::{Args, Parser, Subcommand, ValueEnum};
+use clap_complete::Shell;
+use std::path::PathBuf;
+
+/// What `--help` says at its end.
+const STATUS: &str = "\
+A file name of - is standard input, or standard output where one file is written.
+
+Exit status: 0 done; 1 a refusal, a table that is not safe, or a wrong line of a csv; 2 bad usage,
+or a file that cannot be read or written; 4 `compare --fail-over` found a build that draws too much.";
+
+/// What `bezowik set --help` says at its end.
+const CSV: &str = "\
+A csv as a spreadsheet exports it: comma, semicolon or tab, quotes as in any csv. A first row names
+the columns: `hex` or `text`, and `energy`, in any order; other columns are passed over. Without
+such a row the first column is hex, or text with --text, and the second the energy.
+
+    text,energy,note          hex,energy              4c 4d,40
+    LM,40,load to memory      4c 4d,40                41 4c 4d,55
+    ALM,55,                   41 4c 4d,55
+
+Hex is pairs of digits, with spaces between or without. In a spreadsheet write the spaces: 0010
+typed as a number becomes 10. Text is printable ASCII. An energy is a whole number of picojoules,
+0 to 65535. Every wrong line is told, and nothing is written unless all are right. What was taken
+is listed, in bytes and in text.";
+
+/// Counts measured opcode sequences in a trace, and the energy that they draw.
+#[derive(Parser)]
+#[command(name = "bezowik", version, after_help = STATUS)]
+pub struct Arguments {
+    #[command(subcommand)]
+    pub command: Command,
+}
+
+#[derive(Subcommand)]
+pub enum Command {
+    /// Makes a keyword set from a csv, and lists what it took
+    #[command(after_help = CSV)]
+    Set(Set),
+    /// Makes the skip tables of a set, with the largest safe numbers, or from csv, checked
+    Tables(Tables),
+    /// Checks skip tables: that every number is safe, or which are not
+    Check(Check),
+    /// Tells count, energy and questions of a trace, and the part of each keyword
+    Scan(Scan),
+    /// Tells which of two or more builds draws least, and which keywords make the difference
+    Compare(Compare),
+    /// Prints a set or a file of a skip table as csv
+    Show(Show),
+    /// Prints what makes a shell complete this tool's commands
+    Completions(Completions),
+}
+
+#[derive(Args)]
+pub struct Set {
+    /// The csv
+    #[arg(value_name = "FROM.csv")]
+    pub from: PathBuf,
+    /// The keyword set that is written
+    #[arg(value_name = "SET.bin")]
+    pub to: PathBuf,
+    /// Take the first column as text, where no first row names the columns
+    #[arg(long)]
+    pub text: bool,
+    #[command(flatten)]
+    pub replacing: Replacing,
+}
+
+#[derive(Args)]
+pub struct Replacing {
+    /// Replace a file even if it holds something else than this command writes
+    #[arg(long)]
+    pub force: bool,
+}
+
+#[derive(Args)]
+pub struct Tables {
+    /// The keyword set
+    #[arg(value_name = "SET.bin")]
+    pub set: PathBuf,
+    /// The row file that is written
+    #[arg(value_name = "ROWS.bin")]
+    pub rows: PathBuf,
+    /// The byte file that is written
+    #[arg(value_name = "BYTES.bin")]
+    pub bytes: PathBuf,
+    /// Take the numbers from two csvs as `bezowik show` prints them; they are written only if the check accepts them
+    #[arg(long, num_args = 2, value_names = ["ROWS.csv", "BYTES.csv"])]
+    pub from: Option<Vec<PathBuf>>,
+    #[command(flatten)]
+    pub replacing: Replacing,
+}
+
+#[derive(Args)]
+pub struct Check {
+    /// The keyword set
+    #[arg(value_name = "SET.bin")]
+    pub set: PathBuf,
+    /// The row file
+    #[arg(value_name = "ROWS.bin")]
+    pub rows: PathBuf,
+    /// The byte file
+    #[arg(value_name = "BYTES.bin")]
+    pub bytes: PathBuf,
+    #[command(flatten)]
+    pub form: Form,
+    #[command(flatten)]
+    pub look: Look,
+}
+
+#[derive(Args)]
+pub struct Scan {
+    /// The keyword set
+    #[arg(value_name = "SET.bin")]
+    pub set: PathBuf,
+    /// The trace: one byte for each opcode executed
+    #[arg(value_name = "TRACE.bin")]
+    pub trace: PathBuf,
+    /// Scan backward under these skip tables
+    #[arg(long, num_args = 2, value_names = ["ROWS.bin", "BYTES.bin"])]
+    pub backward: Option<Vec<PathBuf>>,
+    /// List the first N hits too; with --csv they are printed in place of the keywords
+    #[arg(long, value_name = "N", value_parser = number)]
+    pub hits: Option<usize>,
+    /// The order of the keywords
+    #[arg(long, value_enum, default_value_t = Order::Number)]
+    pub sort: Order,
+    #[command(flatten)]
+    pub part: Part,
+    #[command(flatten)]
+    pub form: Form,
+    #[command(flatten)]
+    pub look: Look,
+}
+
+#[derive(Args)]
+pub struct Compare {
+    /// The keyword set
+    #[arg(value_name = "SET.bin")]
+    pub set: PathBuf,
+    /// The traces of the builds; the first is what the others are held against
+    #[arg(value_name = "BUILD.bin", required = true, num_args = 2..)]
+    pub builds: Vec<PathBuf>,
+    /// End with status 4 if a build draws over so many percent more than the first
+    #[arg(long, value_name = "PERCENT", value_parser = percent)]
+    pub fail_over: Option<Percent>,
+    /// The order of the keywords
+    #[arg(long, value_enum, default_value_t = Difference::Difference)]
+    pub sort: Difference,
+    #[command(flatten)]
+    pub part: Part,
+    #[command(flatten)]
+    pub form: Form,
+    #[command(flatten)]
+    pub look: Look,
+}
+
+#[derive(Args)]
+pub struct Show {
+    /// A keyword set, a row file or a byte file: what it is, is told from its bytes
+    #[arg(value_name = "FILE.bin")]
+    pub file: PathBuf,
+}
+
+#[derive(Args)]
+pub struct Completions {
+    /// The shell
+    #[arg(value_enum)]
+    pub shell: Shell,
+}
+
+/// How a result is printed.
+#[derive(Args)]
+pub struct Form {
+    /// Print the result as json
+    #[arg(long, conflicts_with = "csv")]
+    pub json: bool,
+    /// Print the result as csv
+    #[arg(long)]
+    pub csv: bool,
+}
+
+/// How keywords are shown.
+#[derive(Args)]
+pub struct Look {
+    /// Show keywords in hex alone
+    #[arg(long, conflicts_with = "text")]
+    pub hex: bool,
+    /// Show keywords as text alone, and those that have none as hex in brackets
+    #[arg(long)]
+    pub text: bool,
+}
+
+/// How many keywords are shown.
+#[derive(Args)]
+pub struct Part {
+    /// Show the first N keywords alone
+    #[arg(long, value_name = "N", value_parser = number)]
+    pub top: Option<usize>,
+}
+
+/// The order of a scan's keywords: as in the set, or the most first.
+#[derive(Clone, Copy, ValueEnum)]
+pub enum Order {
+    Number,
+    Energy,
+    Occurrences,
+}
+
+/// The order of a comparison's keywords: the largest difference in energy first, the most energy in any build first, or
+/// as in the set.
+#[derive(Clone, Copy, ValueEnum)]
+pub enum Difference {
+    Difference,
+    Energy,
+    Number,
+}
+
+/// A number of percent, in thousandths of a percent.
+#[derive(Clone, Copy, Debug, PartialEq, Eq)]
+pub struct Percent(pub u64);
+
+/// A number of things. One too large to be held is as good as any large one: all are shown.
+fn number(text: &str) -> Result<usize, String> {
+    match !text.is_empty() && text.bytes().all(|b| b.is_ascii_digit()) {
+        true => Ok(text.parse().unwrap_or(usize::MAX)),
+        false => Err("it must be a number, such as 10".to_string()),
+    }
+}
+
+/// A number of percent with at most three decimals.
+fn percent(text: &str) -> Result<Percent, String> {
+    let (whole, decimals) = text.split_once('.').unwrap_or((text, "0"));
+    let digits = |part: &str, most: usize| (1..=most).contains(&part.len()) && part.bytes().all(|b| b.is_ascii_digit());
+    if !digits(whole, 12) || !digits(decimals, 3) {
+        return Err("it must be a number of percent with at most three decimals, such as 5 or 2.5".to_string());
+    }
+    let thousandths = format!("{whole}{decimals:0<3}");
+    thousandths.parse().map(Percent).map_err(|_| "it is too large".to_string())
+}

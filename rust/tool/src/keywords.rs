@@ -1,0 +1,49 @@
+//! The keywords of a set, and how they are shown in a table.
+
+use crate::arguments::Look;
+use crate::text::{cells, hex, text};
+use bezowik::sets::Keyword;
+use bezowik::RECORD;
+use serde_json::{json, Value};
+
+/// The columns of tables that are put to the left: those that hold words and no numbers.
+pub const LEFT: [&str; 6] = ["build", "file", "bytes", "text", "row or byte", "suffix"];
+
+/// The keywords of a set that the library has accepted.
+pub fn keywords(set: &[u8]) -> Vec<Keyword> {
+    let keyword = |r: &[u8]| Keyword {
+        word: r[1..1 + r[0] as usize].to_vec(),
+        energy: u64::from(u16::from_le_bytes([r[16], r[17]])),
+    };
+    set.chunks_exact(RECORD).map(keyword).collect()
+}
+
+impl Look {
+    /// The heads of the columns that show a keyword.
+    pub fn heads(&self) -> Vec<String> {
+        match (self.hex, self.text) {
+            (true, _) => cells(&["bytes"]),
+            (_, true) => cells(&["text"]),
+            _ => cells(&["bytes", "text"]),
+        }
+    }
+
+    /// A keyword in those columns.
+    pub fn cells(&self, word: &[u8]) -> Vec<String> {
+        match (self.hex, self.text) {
+            (true, _) => vec![hex(word)],
+            (_, true) => vec![text(word).unwrap_or_else(|| format!("[{}]", hex(word)))],
+            _ => vec![hex(word), text(word).unwrap_or_default()],
+        }
+    }
+}
+
+/// A keyword in json: its number, its bytes, and its text or null.
+pub fn as_json(number: usize, word: &[u8]) -> Value {
+    json!({ "number": number, "hex": hex(word), "text": text(word) })
+}
+
+/// A keyword in a csv: its number, its bytes, and its text or nothing.
+pub fn as_csv(number: usize, word: &[u8]) -> Vec<String> {
+    vec![number.to_string(), hex(word), text(word).unwrap_or_default()]
+}
