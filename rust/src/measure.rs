@@ -78,8 +78,13 @@ pub fn nanoseconds(mut call: impl FnMut()) -> f64 {
     least
 }
 
-/// Prints the first table: how many times the forward scan's time each other one takes, and which part of it testing the set and laying its
-/// rows is.
+/// Megabytes of a trace in a second.
+fn speed(bytes: usize, nanoseconds: f64) -> f64 {
+    1e3 * bytes as f64 / nanoseconds
+}
+
+/// Prints the first table: the forward scan's speed, how many times its time each other one takes, and which part of it testing the set and
+/// laying its rows is.
 pub fn forward_table(peers: &[Peer]) {
     let mut random = Random::new(64);
     let words = words(&mut random, 4);
@@ -89,7 +94,7 @@ pub fn forward_table(peers: &[Peer]) {
     let ready = nanoseconds(|| {
         black_box(crate::forward(black_box(&set), &[], &mut workspace, &mut hits));
     });
-    print!("{:10} {:>9} {:>9} {:>9} {:>9} {:>9} {:>9}", "trace", "bytes", "hits", "forward", "ready", "host", "slow");
+    print!("{:10} {:>9} {:>9} {:>9} {:>9} {:>9} {:>9}", "trace", "bytes", "hits", "MB/s", "ready", "host", "slow");
     for peer in peers {
         print!(" {:>12}", peer.name);
     }
@@ -108,7 +113,8 @@ pub fn forward_table(peers: &[Peer]) {
             let slow = nanoseconds(|| {
                 black_box(slow::hits(black_box(&keywords), black_box(&trace)));
             });
-            print!("{:10} {n:9} {:9} {:9.2} {:9.2} {:9.2} {:9.2}", kind.name, found.count, 1.0, ready / own, host / own, slow / own);
+            let speed = speed(n, own);
+            print!("{:10} {n:9} {:9} {speed:9.1} {:9.2} {:9.2} {:9.2}", kind.name, found.count, ready / own, host / own, slow / own);
             for peer in peers {
                 let scan = (peer.ready)(&words, &energies);
                 assert_eq!(scan(&trace), (u64::from(found.count), found.energy), "{} finds something else", peer.name);
@@ -128,12 +134,12 @@ pub fn forward_table(peers: &[Peer]) {
     }
 }
 
-/// Prints the second table: the backward scan beside the forward scan, by the shortest keyword's length.
+/// Prints the second table: the backward scan's speed and its time beside the forward scan's, by the shortest keyword's length.
 pub fn backward_table() {
     let n = 1 << 20;
     let mut workspace = vec![0u16; WORKSPACE];
     let mut hits = vec![0u32; 1 << 21];
-    println!("{:10} {:>9} {:>9} {:>9} {:>9} {:>12} {:>9}", "trace", "shortest", "hits", "forward", "backward", "asked a byte", "check");
+    println!("{:10} {:>9} {:>9} {:>9} {:>9} {:>12} {:>9}", "trace", "shortest", "hits", "MB/s", "backward", "asked a byte", "check");
     for shortest in [1, 2, 4, 8, 12] {
         let mut random = Random::new(1000 + shortest as u64);
         let words = words(&mut random, shortest);
@@ -152,10 +158,10 @@ pub fn backward_table() {
                 black_box(crate::backward(black_box(&set), &[], &table, &mut workspace, &mut hits));
             });
             println!(
-                "{:10} {shortest:9} {:9} {:9.2} {:9.2} {:12.2} {:9.3}",
+                "{:10} {shortest:9} {:9} {:9.1} {:9.2} {:12.2} {:9.3}",
                 kind.name,
                 found.count,
-                1.0,
+                speed(n, backward),
                 backward / forward,
                 f64::from(found.questions) / n as f64,
                 check / backward
