@@ -9,6 +9,9 @@ use serde_json::{json, Value};
 /// The far numbers of one byte.
 pub const DEPTHS: usize = 16;
 
+/// The bytes of a row's record that name its suffix; inner and edge stand behind them.
+const NAME: usize = 16;
+
 /// One thing in a table that is not safe.
 pub struct Fault {
     /// The refusal that it would be by itself, and its place.
@@ -18,7 +21,7 @@ pub struct Fault {
     pub at: String,
     /// The suffix of the row.
     pub suffix: Vec<u8>,
-    /// Which number: `inner`, `edge`, `far`; or `suffix` where the record names another.
+    /// Which number: `inner`, `edge`, `far`; `suffix` where the record names another; or the file's `size`.
     pub what: &'static str,
     pub found: String,
     pub largest: String,
@@ -57,24 +60,20 @@ impl Audit {
         if self.swapped {
             return;
         }
-        for (row, (found, most)) in found.chunks_exact(ROW).zip(largest.chunks_exact(ROW)).enumerate() {
-            let suffix = most[1..1 + usize::from(most[0])].to_vec();
-            let at = format!("row {row}");
-            if found[..16] != most[..16] {
-                let fault = Fault {
-                    number: 11,
-                    place: row,
-                    at,
-                    suffix,
-                    what: "suffix",
-                    found: named(found),
-                    largest: named(most),
-                };
-                self.faults.push(fault);
+        for (place, (found, most)) in found.chunks_exact(ROW).zip(largest.chunks_exact(ROW)).enumerate() {
+            let fault = |number, what, found, largest| {
+                let suffix = most[1..1 + usize::from(most[0])].to_vec();
+                Fault { number, place, at: format!("row {place}"), suffix, what, found, largest }
+            };
+            if found[..NAME] != most[..NAME] {
+                self.faults.push(fault(11, "suffix", named(found), named(most)));
                 continue;
             }
-            self.number(12, row, &at, &suffix, "inner", found[16], most[16]);
-            self.number(12, row, &at, &suffix, "edge", found[17], most[17]);
+            for (at, what) in [(NAME, "inner"), (NAME + 1, "edge")] {
+                if !self.safe(found[at], most[at]) {
+                    self.faults.push(fault(12, what, found[at].to_string(), most[at].to_string()));
+                }
+            }
         }
     }
 
@@ -84,44 +83,24 @@ impl Audit {
             return self.size(13, 0, "byte file", found.len(), BYTES);
         }
         for (place, (&found, &most)) in found.iter().zip(largest).enumerate() {
-            let byte = (place / DEPTHS) as u8;
-            let at = format!("byte {} depth {}", byte_shown(byte), place % DEPTHS);
-            self.number(14, place, &at, &[], "far", found, most);
+            if !self.safe(found, most) {
+                let at = format!("byte {} depth {}", byte_shown((place / DEPTHS) as u8), place % DEPTHS);
+                let (found, largest) = (found.to_string(), most.to_string());
+                self.faults.push(Fault { number: 14, place, at, suffix: vec![], what: "far", found, largest });
+            }
         }
     }
 
     /// A file that has not the bytes it must have.
     fn size(&mut self, number: u16, place: usize, file: &str, found: usize, must: usize) {
-        let told = |n: usize| format!("{n} bytes");
-        let fault = Fault {
-            number,
-            place,
-            at: file.to_string(),
-            suffix: vec![],
-            what: "size",
-            found: told(found),
-            largest: told(must),
-        };
-        self.faults.push(fault);
+        let (found, largest) = (format!("{found} bytes"), format!("{must} bytes"));
+        self.faults.push(Fault { number, place, at: file.to_string(), suffix: vec![], what: "size", found, largest });
     }
 
-    /// One number beside the largest safe one.
-    #[allow(clippy::too_many_arguments)]
-    fn number(&mut self, number: u16, place: usize, at: &str, suffix: &[u8], what: &'static str, found: u8, most: u8) {
-        if found == 0 || found > most {
-            let (found, largest) = (found.to_string(), most.to_string());
-            self.faults.push(Fault {
-                number,
-                place,
-                at: at.to_string(),
-                suffix: suffix.to_vec(),
-                what,
-                found,
-                largest,
-            });
-        } else if found < most {
-            self.below += 1;
-        }
+    /// Whether a number is safe; one that could be larger is counted.
+    fn safe(&mut self, found: u8, most: u8) -> bool {
+        self.below += usize::from((1..most).contains(&found));
+        (1..=most).contains(&found)
     }
 }
 
@@ -140,10 +119,10 @@ impl Fault {
 /// The suffix that a record of a row file names, in hex, or that it names none.
 fn named(record: &[u8]) -> String {
     let n = usize::from(record[0]);
-    match (n, n <= 15 && record[1 + n..16].iter().all(|&b| b == 0)) {
+    match (n, n < NAME && record[1 + n..NAME].iter().all(|&b| b == 0)) {
         (0, true) => "(empty)".to_string(),
         (_, true) => hex(&record[1..1 + n]),
-        _ => format!("no suffix ({})", hex(&record[..16])),
+        _ => format!("no suffix ({})", hex(&record[..NAME])),
     }
 }
 

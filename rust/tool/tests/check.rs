@@ -222,7 +222,9 @@ fn shown_and_taken_back() {
     assert_eq!(folder.read("w2.bin"), bench_set());
     folder.done("tables w.bin r2.bin b2.bin --from r.csv b.csv");
     assert_eq!(Table { rows: folder.read("r2.bin"), bytes: folder.read("b2.bin") }, bench_table());
-    assert!(folder.fails(1, "show t.bin").starts_with("t.bin: neither a keyword set nor a row file nor a byte file"));
+    let told = "t.bin: refusal 2 place 0: the set has 7 bytes, no multiple of 18: the file is cut short or is no keyword set; \
+nor is it a row file or a byte file\n";
+    assert_eq!(folder.fails(1, "show t.bin"), told);
 }
 
 /// A smaller number is taken, one that is not safe is refused, and so is a line that is wrong; then nothing is written.

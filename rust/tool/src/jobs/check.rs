@@ -67,33 +67,30 @@ fn in_text(asked: &Check, tables: &Tables, answer: Answer, audit: &Audit, out: &
         lines.extend(audit.faults.iter().map(|fault| fault_cells(asked, fault)));
         writeln!(out, "{}{}", columns(&lines, &LEFT), counted(audit.faults.len(), "fault"))?;
     }
+    let mend = mend(asked, tables, audit.swapped);
     if audit.swapped {
-        writeln!(
-            out,
-            "the two files look swapped: {} is a byte file, {} a row file",
-            shown_name(&asked.rows),
-            shown_name(&asked.bytes)
-        )?;
-        writeln!(out, "this checks them in their places: {}", mend(asked, tables, true))?;
-        return Ok(());
+        let (rows, bytes) = (shown_name(&asked.rows), shown_name(&asked.bytes));
+        writeln!(out, "the two files look swapped: {rows} is a byte file, {bytes} a row file")?;
+        return Ok(writeln!(out, "this checks them in their places: {mend}")?);
     }
-    match audit.below {
-        0 => writeln!(out, "none of {} numbers is below the largest safe one", audit.numbers)?,
-        1 => writeln!(
-            out,
-            "1 of {} numbers is below the largest safe one: safe, but slower than need be",
-            audit.numbers
-        )?,
-        n => writeln!(
-            out,
-            "{n} of {} numbers are below the largest safe ones: safe, but slower than need be",
-            audit.numbers
-        )?,
+    // a file of another size is not compared to its end
+    if !audit.faults.iter().any(|fault| fault.what == "size") {
+        writeln!(out, "{}", below(audit))?;
     }
     if answer.number != 0 || audit.below > 0 {
-        writeln!(out, "this makes the tables again, with the largest safe numbers: {}", mend(asked, tables, false))?;
+        writeln!(out, "this makes the tables again, with the largest safe numbers: {mend}")?;
     }
     Ok(())
+}
+
+/// How many numbers are below the largest safe ones.
+fn below(audit: &Audit) -> String {
+    let all = audit.numbers;
+    match audit.below {
+        0 => format!("none of {all} numbers is below the largest safe one"),
+        1 => format!("1 of {all} numbers is below the largest safe one: safe, but slower than need be"),
+        n => format!("{n} of {all} numbers are below the largest safe ones: safe, but slower than need be"),
+    }
 }
 
 /// A fault as a line of the table.

@@ -8,7 +8,7 @@ use crate::keywords::{as_csv, as_json, keywords, LEFT};
 use crate::text::{cells, columns, counted, percent, shown_name};
 use crate::{Done, Failure};
 use bezowik::sets::Keyword;
-use bezowik::Answer;
+use bezowik::{Answer, RECORD};
 use serde_json::{json, Value};
 use std::cmp::Reverse;
 use std::io::Write;
@@ -51,7 +51,7 @@ pub fn run(asked: &Compare, out: &mut dyn Write) -> Done {
     match (asked.form.json, asked.form.csv) {
         (true, _) => print_json(&in_json(asked, &builds, shown), out)?,
         (_, true) => in_csv(&builds, shown, out)?,
-        _ => in_text(asked, &builds, shown, lines.len(), set.bytes.len() / bezowik::RECORD, out)?,
+        _ => write!(out, "{}", in_text(asked, &builds, shown, lines.len(), set.bytes.len() / RECORD))?,
     }
     within(asked.fail_over, &builds)
 }
@@ -86,39 +86,32 @@ fn ordered(keywords: &[Keyword], builds: &[Build], order: Difference) -> Vec<Lin
 }
 
 /// The result for a person.
-fn in_text(
-    asked: &Compare,
-    builds: &[Build],
-    shown: &[Line],
-    differing: usize,
-    all: usize,
-    out: &mut dyn Write,
-) -> Done {
-    let mut lines = vec![cells(&["build", "file", "count", "energy pJ", "more than A pJ", "%"])];
-    for (i, build) in builds.iter().enumerate() {
-        let beside = match i {
-            0 => vec![],
-            _ => vec![
-                signed(build.answer.energy, builds[0].answer.energy),
-                rise(build.answer.energy, builds[0].answer.energy),
-            ],
-        };
-        let energy = build.answer.energy.to_string();
-        lines.push(
-            [vec![build.letter.clone(), build.file.clone(), build.answer.count.to_string(), energy], beside].concat(),
-        );
-    }
-    writeln!(out, "{}{}", columns(&lines, &LEFT), verdict(builds))?;
+fn in_text(asked: &Compare, builds: &[Build], shown: &[Line], differing: usize, all: usize) -> String {
+    let mut text = format!("{}{}\n", totals(builds), verdict(builds));
     if !shown.is_empty() {
-        write!(out, "\n{}", differences(asked, builds, shown))?;
+        text += &format!("\n{}", differences(asked, builds, shown));
     }
     if shown.len() < differing {
-        writeln!(out, "and {} more with a difference", counted(differing - shown.len(), "keyword"))?;
+        text += &format!("and {} more with a difference\n", counted(differing - shown.len(), "keyword"));
     }
     if differing < all {
-        writeln!(out, "{} without a difference left out", counted(all - differing, "keyword"))?;
+        text += &format!("{} without a difference left out\n", counted(all - differing, "keyword"));
     }
-    Ok(())
+    text
+}
+
+/// The table of the builds: what each draws, and how much more than the first.
+fn totals(builds: &[Build]) -> String {
+    let first = builds[0].answer.energy;
+    let mut lines = vec![cells(&["build", "file", "count", "energy pJ", "more than A pJ", "%"])];
+    for (i, Build { letter, file, answer, .. }) in builds.iter().enumerate() {
+        let mut line = vec![letter.clone(), file.clone(), answer.count.to_string(), answer.energy.to_string()];
+        if i > 0 {
+            line.extend([signed(answer.energy, first), rise(answer.energy, first)]);
+        }
+        lines.push(line);
+    }
+    columns(&lines, &LEFT)
 }
 
 /// The table of the keywords: how often each stands in each build, and what it draws more than in the first.

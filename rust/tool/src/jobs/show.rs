@@ -3,9 +3,10 @@
 use super::print_csv;
 use crate::arguments::Show;
 use crate::faults::DEPTHS;
-use crate::files::read;
+use crate::files::{read, Input};
 use crate::keywords::keywords;
 use crate::kinds::{kind, Kind};
+use crate::refusals::{accepted, Lent};
 use crate::text::{cells, hex, shown_name, text};
 use crate::{Done, Failure};
 use bezowik::ROW;
@@ -22,15 +23,16 @@ pub fn run(asked: &Show, out: &mut dyn Write) -> Done {
         Some(Kind::Set) => print_csv(set_lines(&file.bytes), out),
         Some(Kind::Rows) => print_csv(row_lines(&file.bytes), out),
         Some(Kind::Bytes) => print_csv(byte_lines(&file.bytes), out),
-        None => Err(Failure::Refused(unknown(&file.name, &file.bytes))),
+        None => Err(unknown(&file)),
     }
 }
 
-/// That a file is none of the three, and what the library says of it as a set.
-fn unknown(name: &std::path::Path, bytes: &[u8]) -> String {
-    let refusal = bezowik::cost(bytes, &[]);
-    let sentence = format!("as a set it is refused with {} at place {}", refusal.number, refusal.place);
-    format!("{}: neither a keyword set nor a row file nor a byte file: {sentence}", shown_name(name))
+/// That a file is none of the three: why it is no set, and that it is nothing else.
+fn unknown(file: &Input) -> Failure {
+    match accepted(bezowik::cost(&file.bytes, &[]), &Lent { set: file, trace: None, tables: None }) {
+        Err(Failure::Refused(why)) => Failure::Refused(format!("{why}; nor is it a row file or a byte file")),
+        _ => Failure::Refused(format!("{}: not a file that this tool writes", shown_name(&file.name))),
+    }
 }
 
 /// A set as `bezowik set` takes it back.
@@ -39,8 +41,7 @@ fn set_lines(set: &[u8]) -> Vec<Vec<String>> {
     [cells(&["hex", "energy", "name"])].into_iter().chain(keywords(set).into_iter().map(line)).collect()
 }
 
-/// A row file as `bezowik tables --from` takes it back. A record of a damaged file may name no suffix: it is shown as
-/// it is.
+/// A row file as `bezowik tables --from` takes it back.
 fn row_lines(rows: &[u8]) -> Vec<Vec<String>> {
     let line = |(row, record): (usize, &[u8])| {
         let suffix = hex(&record[1..1 + usize::from(record[0])]);
