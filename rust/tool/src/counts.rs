@@ -1,6 +1,7 @@
 //! A scan with its hits counted by keyword, and the progress that a terminal shows meanwhile.
 
 use crate::files::{Input, Tables};
+use crate::keywords::keywords;
 use crate::refusals::{accepted, Lent};
 use crate::text::shown_name;
 use crate::Failure;
@@ -31,12 +32,26 @@ pub fn scan(set: &Input, trace: &Input, tables: Option<&Tables>) -> Result<Found
     let answer = accepted(answer, &Lent { set, trace: Some(trace), tables })?;
     hits.truncate(2 * answer.count as usize);
     progress.set_message("counting hits");
-    let mut occurrences = vec![0; set.bytes.len() / RECORD];
+    let occurrences = occurrences(&hits, set, answer)?;
+    progress.finish_and_clear();
+    Ok(Found { answer, hits, occurrences })
+}
+
+/// How often each keyword stands in a hit list. What they draw together is what the library has proved, or nothing is
+/// printed.
+fn occurrences(hits: &[u32], set: &Input, answer: Answer) -> Result<Vec<u64>, Failure> {
+    let keywords = keywords(&set.bytes);
+    let mut occurrences = vec![0; keywords.len()];
     for pair in hits.chunks_exact(2) {
         occurrences[pair[1] as usize] += 1;
     }
-    progress.finish_and_clear();
-    Ok(Found { answer, hits, occurrences })
+    let drawn: u64 = keywords.iter().zip(&occurrences).map(|(keyword, n)| keyword.energy * n).sum();
+    match drawn == answer.energy {
+        true => Ok(occurrences),
+        false => {
+            Err(Failure::Refused("the parts do not add up to the total, which is a fault of the tool".to_string()))
+        }
+    }
 }
 
 /// The most hits that a trace can have: at each end one for each length of a keyword. Memory that is lent and not

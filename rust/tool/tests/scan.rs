@@ -128,6 +128,9 @@ no  bytes        text  occurrences  energy pJ  share %
 ";
     assert_eq!(folder.done("scan w.bin empty.bin"), expected);
     assert_eq!(folder.done("scan w.bin empty.bin --backward rows.bin bytes.bin"), expected);
+    let hits = "\nthe first 0 of 0 hits\nend  no  bytes        text\n";
+    assert_eq!(folder.done("scan w.bin empty.bin --hits 5"), format!("{expected}{hits}"));
+    assert_eq!(folder.done("scan w.bin empty.bin --hits 5 --csv"), "end,number,hex,text\n");
 }
 
 #[test]
