@@ -144,6 +144,10 @@ this checks them in their places: bezowik check w.bin rows.bin bytes.bin
 ";
     assert_eq!((status, out.as_str()), (1, expected));
     assert!(told.starts_with("bytes.bin: refusal 10 place 8: "));
+    for one in ["check w.bin bytes.bin bytes.bin", "check w.bin rows.bin rows.bin"] {
+        let (status, out, _) = folder.run(one);
+        assert!(status == 1 && !out.contains("swapped"), "{out}");
+    }
     let (_, json, _) = folder.run("check w.bin bytes.bin rows.bin --json");
     let json: serde_json::Value = serde_json::from_str(&json).expect("json");
     assert_eq!((&json["swapped"], &json["mend"]), (&true.into(), &"bezowik check w.bin rows.bin bytes.bin".into()));
