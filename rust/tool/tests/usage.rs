@@ -101,6 +101,9 @@ fn names_with_control_characters() {
         // a forward scan's table names no file
         assert!(command == commands[0] || out.contains(safe) || told.contains(safe), "{command:?}: {out} {told}");
     }
+    // a part of an argument, too
+    let (_, _, told) = folder.run_with(&["scan", "w.bin", "t.bin", "--sort=\u{1b}[31mx"]);
+    assert!(bare(&told) && told.contains("\\x1b[31mx"), "{told:?}");
 }
 
 /// Standard input and output in the place of a file.
