@@ -30,6 +30,10 @@ const ZEROS: &str = "hex of digits alone, and a spreadsheet drops the zeros in f
 const HASHES: &str =
     "text that begins with #, and it is a keyword: a csv has no comments, delete the row if it was one";
 
+/// What is noted of an energy that may have lost its decimals to the next column.
+const DECIMALS: &str = "a number right behind the energy, in a column that is passed over: energies are whole \
+    picojoules, so look whether it is what stood behind a decimal comma";
+
 /// What a row that begins with # is told.
 const NO_COMMENTS: &str = "a csv has no comments: delete the row that begins with #, or put it into a column `note`";
 
@@ -82,6 +86,7 @@ struct Reading {
     wrong: usize,
     zeros: Vec<usize>,
     hashes: Vec<usize>,
+    decimals: Vec<usize>,
     lines: HashMap<Vec<u8>, usize>,
 }
 
@@ -239,6 +244,9 @@ impl Reading {
                     Kind::Text if keyword.starts_with(b"#") => self.hashes.push(row.line),
                     _ => {}
                 }
+                if form.splits_energy(row) {
+                    self.decimals.push(row.line);
+                }
                 Ok(Taken { line: row.line, word, energy })
             }
             (word, energy) => Err([word.err(), energy.err()].into_iter().flatten().collect()),
@@ -257,7 +265,8 @@ impl Reading {
 
     /// What the writer of the sheet should look at, although it was taken.
     fn notes(&self) -> Vec<Fault> {
-        [noted(&self.zeros, ZEROS), noted(&self.hashes, HASHES)].into_iter().flatten().collect()
+        let notes = [noted(&self.zeros, ZEROS), noted(&self.hashes, HASHES), noted(&self.decimals, DECIMALS)];
+        notes.into_iter().flatten().collect()
     }
 }
 

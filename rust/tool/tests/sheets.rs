@@ -88,7 +88,7 @@ fn columns_decide() {
     check_taken(b"hex,energy\nAD,1\nff,2\nBEAD,3\n", false, &[(&[0xad], 1), (&[0xff], 2), (&[0xbe, 0xad], 3)], 0);
     check_taken(b"text,energy\nAD,1\nff,2\n4c4d,3\n", false, &[(b"AD", 1), (b"ff", 2), (b"4c4d", 3)], 0);
     check_taken(b"text,energy,note\nLM,40,\xfcber\nA,1,\"\"\"q\"\"\"\n", false, &[(b"LM", 40), (b"A", 1)], 0);
-    check_taken(b"text,energy,count\nLM,40,5\n", false, &[(b"LM", 40)], 0);
+    check_taken(b"text,energy,count\nLM,40,5\n", false, &[(b"LM", 40)], 1);
     check_taken("text;energy;Größe\nLM;40;3,5\n".as_bytes(), false, &[(b"LM", 40)], 0);
     let longest: Words = &[(&[0, 1, 2, 3, 4, 5, 6, 7, 8, 9, 10, 11, 12, 13, 14], 0)];
     check_taken(b"hex,energy\n000102030405060708090a0b0c0d0e,0\n", false, longest, 0);
@@ -115,6 +115,16 @@ fn hashes_give_a_note() {
         assert_eq!(sheet.notes, [Fault { line: None, reason: format!("{lines} {note}") }]);
     }
     assert_eq!(faults(b"# W\n4c,1\n4d,2\n", false), format!("f line 1: {NO_COMMENTS}"));
+}
+
+/// A decimal comma in a file without quotes looks like a number in the next column.
+#[test]
+fn numbers_behind_energies_give_a_note() {
+    let note = "a number right behind the energy, in a column that is passed over: energies are whole picojoules, so \
+look whether it is what stood behind a decimal comma";
+    let sheet = keywords(b"text,energy,note\nLM,40,5\nALM,55,fast\nA,1,\n", false).expect("it is right");
+    assert_eq!(sheet.notes, [Fault { line: None, reason: format!("line 2 has {note}") }]);
+    assert_eq!(keywords(b"text;energy;note\nLM;40;5\n", false).expect("it is right").notes, []);
 }
 
 /// What was taken, with bytes and text side by side.
