@@ -24,24 +24,6 @@ fn bench(test: &str) -> Folder {
     folder
 }
 
-/// The tool, to be run in a folder.
-fn tool(folder: &Folder, arguments: &[&str]) -> Command {
-    let mut command = Command::new(env!("CARGO_BIN_EXE_bezowik"));
-    command.args(arguments).current_dir(&folder.0);
-    command
-}
-
-/// The tool's exit status, output and messages where standard input holds some bytes.
-fn fed(folder: &Folder, arguments: &str, input: &[u8]) -> (Option<i32>, Vec<u8>, String) {
-    let arguments: Vec<&str> = arguments.split_whitespace().collect();
-    let mut command = tool(folder, &arguments);
-    let mut running =
-        command.stdin(Stdio::piped()).stdout(Stdio::piped()).stderr(Stdio::piped()).spawn().expect("the tool runs");
-    // a tool that does not read all of it closes the pipe
-    let _ = running.stdin.take().expect("a pipe").write_all(input);
-    ended(running.wait_with_output().expect("the tool ends"))
-}
-
 /// The exit status, the output and the messages of a run.
 fn ended(output: Output) -> (Option<i32>, Vec<u8>, String) {
     (output.status.code(), output.stdout, String::from_utf8(output.stderr).expect("the tool writes text"))
@@ -403,18 +385,19 @@ fn standard_input() {
         ("compare w.bin - t.bin", BENCH_TRACE),
     ];
     for (arguments, input) in cases {
-        let (status, _, told) = fed(&folder, arguments, input);
+        let (status, _, told) = folder.fed(arguments, input);
         assert_eq!((status, told.as_str()), (Some(0), ""), "{arguments}");
     }
     assert_eq!(
         (folder.read("n.bin"), folder.read("r.bin"), folder.read("b.bin")),
         (bench_set(), table.rows, table.bytes)
     );
-    assert!(fed(&folder, "set - n.bin", b"wrong")
+    assert!(folder
+        .fed("set - n.bin", b"wrong")
         .2
         .starts_with("standard input line 1: the first row `wrong` is neither "));
-    assert!(fed(&folder, "scan - t.bin", b"").2.starts_with("standard input: refusal 1 place 0: "));
-    let long = fed(&folder, "tables - r.bin b.bin", &vec![0; (16 << 20) + 1]);
+    assert!(folder.fed("scan - t.bin", b"").2.starts_with("standard input: refusal 1 place 0: "));
+    let long = folder.fed("tables - r.bin b.bin", &vec![0; (16 << 20) + 1]);
     assert_eq!(long.2, "standard input: the file is longer than 16 MiB, and no set, table or csv is\n");
     for arguments in [
         "check - - bytes.bin",
@@ -423,7 +406,7 @@ fn standard_input() {
         "scan w.bin - --backward rows.bin -",
         "compare w.bin - -",
     ] {
-        let (status, _, told) = fed(&folder, arguments, b"");
+        let (status, _, told) = folder.fed(arguments, b"");
         assert_eq!((status, first(&told)), (Some(2), "standard input can be read only once"), "{arguments}");
     }
     // a file of that name has another
@@ -437,17 +420,17 @@ fn standard_output() {
     let folder = bench("standard_output");
     let before = folder.listed();
     for (arguments, input) in [("set w.csv -", &b""[..]), ("set - -", BENCH_CSV)] {
-        let (status, out, told) = fed(&folder, arguments, input);
+        let (status, out, told) = folder.fed(arguments, input);
         assert_eq!((status, out), (Some(0), bench_set()), "{arguments}");
         assert!(told.starts_with("3 keywords written\n\nno  line  bytes "), "{told}");
     }
     for arguments in ["tables w.bin - b.bin", "tables w.bin r.bin -", "tables w.bin - -"] {
-        let (status, out, told) = fed(&folder, arguments, b"");
+        let (status, out, told) = folder.fed(arguments, b"");
         let sentence = "two files are written, so that neither can be standard output";
         assert_eq!((status, out, first(&told)), (Some(2), vec![], sentence));
     }
     let full = File::options().write(true).open("/dev/full").expect("the device is there");
-    let (status, _, told) = ended(tool(&folder, &["set", "w.csv", "-"]).stdout(full).output().expect("the tool runs"));
+    let (status, _, told) = ended(folder.tool(&["set", "w.csv", "-"]).stdout(full).output().expect("the tool runs"));
     assert_eq!(
         (status, told.as_str()),
         (Some(2), "standard output: cannot be written: No space left on device (os error 28)\n")
@@ -459,7 +442,7 @@ fn standard_output() {
 #[test]
 fn a_reader_of_a_file_that_goes_away() {
     let folder = bench("a_reader_of_a_file_that_goes_away");
-    let mut command = tool(&folder, &["set", "-", "-"]);
+    let mut command = folder.tool(&["set", "-", "-"]);
     let mut running =
         command.stdin(Stdio::piped()).stdout(Stdio::piped()).stderr(Stdio::piped()).spawn().expect("the tool runs");
     drop(running.stdout.take());
@@ -476,7 +459,7 @@ fn streams() {
     assert_eq!(folder.read("b.bin"), bench_table().bytes);
     // what /dev/stdout is
     link(&folder, "/proc/self/fd/1", "out");
-    let (status, out, told) = ended(tool(&folder, &["set", "w.csv", "out"]).output().expect("the tool runs"));
+    let (status, out, told) = ended(folder.tool(&["set", "w.csv", "out"]).output().expect("the tool runs"));
     assert!((status, told.as_str()) == (Some(0), "") && out.starts_with(&bench_set()), "{told}");
     let made = Command::new("mkfifo").args(["-m", "666"]).arg(folder.0.join("pipe")).status().expect("mkfifo runs");
     assert!(made.success());
@@ -506,7 +489,8 @@ fn a_file_without_a_name() {
     let files = || fs::read_dir(&folder.0).expect("the folder is there").count();
     let before = files();
     let messages = file.try_clone().expect("the file is open");
-    assert!(tool(&folder, &["set", "w.csv", "messages"])
+    assert!(folder
+        .tool(&["set", "w.csv", "messages"])
         .stderr(messages)
         .output()
         .expect("the tool runs")
@@ -523,7 +507,7 @@ fn a_file_without_a_name() {
 fn unusual_names() {
     let folder = bench("unusual_names");
     for name in ["n".repeat(255), "\u{1f50b}".repeat(63), ".hidden".to_string(), "a b\n".to_string()] {
-        let done = tool(&folder, &["set", "w.csv", &name]).output().expect("the tool runs");
+        let done = folder.tool(&["set", "w.csv", &name]).output().expect("the tool runs");
         assert!(done.status.success(), "{name}");
         assert_eq!(folder.read(&name), bench_set());
     }
@@ -538,7 +522,7 @@ fn control_characters() {
         "a\x1b[31m\r\nb\u{9b}c\u{202e}d\u{2066}e\u{e9}\x7f",
         "a\\x1b[31m\\x0d\\x0ab\\u{9b}c\\u{202e}d\\u{2066}e\u{e9}\\x7f",
     );
-    let told = |arguments: &[&str]| ended(tool(&folder, arguments).output().expect("the tool runs")).2;
+    let told = |arguments: &[&str]| ended(folder.tool(arguments).output().expect("the tool runs")).2;
     assert_eq!(
         told(&["set", name, "n.bin"]),
         format!("{shown}: cannot be read: No such file or directory (os error 2)\n")
