@@ -6,7 +6,7 @@ use bezowik::measure::{set_file, words};
 use bezowik::random::Random;
 use bezowik::sets::record;
 use bezowik::slow;
-use bezowik::{Answer, WORKSPACE};
+use bezowik::{Answer, OVERLAP, WORKSPACE};
 use common::{bench_set, damaged_set, random_set, random_trace, BENCH_TRACE};
 
 /// Both scans of one input, with buffers that hold something beforehand: all that they leave must be the same.
@@ -180,22 +180,6 @@ fn set_and_trace(random: &mut Random) -> (Vec<u8>, Vec<u8>) {
     (set_file(&words).0, trace)
 }
 
-/// What the tool says at refusal 8: parts that share 14 bytes give exactly the hits of the whole trace. Where they share fewer, some are lost.
-#[test]
-fn parts_of_a_trace() {
-    let mut lost = 0;
-    for seed in 8000..8300 {
-        println!("seed {seed}");
-        let mut random = Random::new(seed);
-        let (set, trace) = set_and_trace(&mut random);
-        let whole = hits(&set, &trace);
-        assert_eq!(hits_in_parts(&mut random, &set, &trace, 14), whole);
-        lost += usize::from(hits_in_parts(&mut random, &set, &trace, 13) != whole);
-    }
-    println!("with 13 bytes shared, {lost} traces lost hits");
-    assert!(lost > 20);
-}
-
 /// Count and energy of a trace in parts, as the header words it: the sums over the parts, each later part begun so many bytes before the cut,
 /// less the cost of its first so many bytes alone.
 fn cost_in_parts(random: &mut Random, set: &[u8], trace: &[u8], shared: usize) -> (u32, u64) {
@@ -213,19 +197,32 @@ fn cost_in_parts(random: &mut Random, set: &[u8], trace: &[u8], shared: usize) -
     (count, energy)
 }
 
-/// What the header says of a trace that is too long, beside the slow count of the whole. With 13 bytes for 14 some hits are lost.
-#[test]
-fn cut_traces() {
+/// Random traces cut with the header's overlap, which must be right, and with one byte less, which must often be wrong: so the traces try it.
+fn cut_everywhere(seeds: std::ops::Range<u64>, right: fn(&mut Random, &[u8], &[u8], usize) -> bool) {
     let mut lost = 0;
-    for seed in 8300..8600 {
+    for seed in seeds {
         println!("seed {seed}");
         let mut random = Random::new(seed);
         let (set, trace) = set_and_trace(&mut random);
-        let keywords = slow::keywords(&set, slow::Way::Forward).expect("the set passes its tests");
-        let whole = slow::found(&keywords, &slow::hits(&keywords, &trace), 0);
-        assert_eq!(cost_in_parts(&mut random, &set, &trace, bezowik::OVERLAP), (whole.count, whole.energy));
-        lost += usize::from(cost_in_parts(&mut random, &set, &trace, bezowik::OVERLAP - 1) != (whole.count, whole.energy));
+        assert!(right(&mut random, &set, &trace, OVERLAP));
+        lost += usize::from(!right(&mut random, &set, &trace, OVERLAP - 1));
     }
-    println!("with 13 bytes before the cut, {lost} traces lost hits");
+    println!("with one byte less, {lost} traces lost hits");
     assert!(lost > 20);
+}
+
+/// The list of a trace that is too long: a later part's hits that end within its first bytes are left out.
+#[test]
+fn lists_of_cut_traces() {
+    cut_everywhere(8000..8300, |random, set, trace, shared| hits_in_parts(random, set, trace, shared) == hits(set, trace));
+}
+
+/// The count and the energy of a trace that is too long, beside the slow count of the whole.
+#[test]
+fn costs_of_cut_traces() {
+    cut_everywhere(8300..8600, |random, set, trace, shared| {
+        let keywords = slow::keywords(set, slow::Way::Forward).expect("the set passes its tests");
+        let whole = slow::found(&keywords, &slow::hits(&keywords, trace), 0);
+        cost_in_parts(random, set, trace, shared) == (whole.count, whole.energy)
+    });
 }
