@@ -15,3 +15,9 @@ pub fn record(word: &[u8], energy: u16) -> Vec<u8> {
     bytes.extend_from_slice(&energy.to_le_bytes());
     bytes
 }
+
+/// The keyword of a record that has passed its tests.
+pub fn keyword(record: &[u8]) -> Keyword {
+    let energy = u64::from(u16::from_le_bytes([record[16], record[17]]));
+    Keyword { word: record[1..1 + usize::from(record[0])].to_vec(), energy }
+}

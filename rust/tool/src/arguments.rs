@@ -201,6 +201,31 @@ pub struct Part {
     pub top: Option<usize>,
 }
 
+/// The form of a result.
+pub enum Printed {
+    Text,
+    Json,
+    Csv,
+}
+
+impl Form {
+    /// The form that is asked for.
+    pub fn printed(&self) -> Printed {
+        match (self.json, self.csv) {
+            (true, _) => Printed::Json,
+            (_, true) => Printed::Csv,
+            _ => Printed::Text,
+        }
+    }
+}
+
+impl Part {
+    /// The lines that are shown of all.
+    pub fn of<'a, T>(&self, all: &'a [T]) -> &'a [T] {
+        &all[..self.top.unwrap_or(all.len()).min(all.len())]
+    }
+}
+
 /// The order of a scan's keywords: as in the set, or the most first.
 #[derive(Clone, Copy, ValueEnum)]
 pub enum Order {

@@ -2,15 +2,10 @@
 
 use crate::files::Tables;
 use crate::kinds::{kind, Kind};
+use crate::records::{suffix, DEPTHS, EDGE, INNER, NAME};
 use crate::text::{hex, text};
 use bezowik::{Table, BYTES, ROW};
 use serde_json::{json, Value};
-
-/// The far numbers of one byte.
-pub const DEPTHS: usize = 16;
-
-/// The bytes of a row's record that name its suffix; inner and edge stand behind them.
-const NAME: usize = 16;
 
 /// One thing in a table that is not safe.
 pub struct Fault {
@@ -62,14 +57,14 @@ impl Audit {
         }
         for (place, (found, most)) in found.chunks_exact(ROW).zip(largest.chunks_exact(ROW)).enumerate() {
             let fault = |number, what, found, largest| {
-                let suffix = most[1..1 + usize::from(most[0])].to_vec();
+                let suffix = suffix(most).unwrap_or_default().to_vec();
                 Fault { number, place, at: format!("row {place}"), suffix, what, found, largest }
             };
             if found[..NAME] != most[..NAME] {
                 self.faults.push(fault(11, "suffix", named(found), named(most)));
                 continue;
             }
-            for (at, what) in [(NAME, "inner"), (NAME + 1, "edge")] {
+            for (at, what) in [(INNER, "inner"), (EDGE, "edge")] {
                 if !self.safe(found[at], most[at]) {
                     self.faults.push(fault(12, what, found[at].to_string(), most[at].to_string()));
                 }
@@ -118,11 +113,10 @@ impl Fault {
 
 /// The suffix that a record of a row file names, in hex, or that it names none.
 fn named(record: &[u8]) -> String {
-    let n = usize::from(record[0]);
-    match (n, n < NAME && record[1 + n..NAME].iter().all(|&b| b == 0)) {
-        (0, true) => "(empty)".to_string(),
-        (_, true) => hex(&record[1..1 + n]),
-        _ => format!("no suffix ({})", hex(&record[..NAME])),
+    match suffix(record) {
+        Some([]) => "(empty)".to_string(),
+        Some(suffix) => hex(suffix),
+        None => format!("no suffix ({})", hex(&record[..NAME])),
     }
 }
 

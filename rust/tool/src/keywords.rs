@@ -2,7 +2,7 @@
 
 use crate::arguments::Look;
 use crate::text::{cells, hex, text};
-use bezowik::sets::Keyword;
+use bezowik::sets::{keyword, Keyword};
 use bezowik::RECORD;
 use serde_json::{json, Value};
 
@@ -11,10 +11,6 @@ pub const LEFT: [&str; 6] = ["build", "file", "bytes", "text", "row or byte", "s
 
 /// The keywords of a set that the library has accepted.
 pub fn keywords(set: &[u8]) -> Vec<Keyword> {
-    let keyword = |r: &[u8]| Keyword {
-        word: r[1..1 + r[0] as usize].to_vec(),
-        energy: u64::from(u16::from_le_bytes([r[16], r[17]])),
-    };
     set.chunks_exact(RECORD).map(keyword).collect()
 }
 

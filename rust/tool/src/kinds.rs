@@ -1,12 +1,10 @@
 //! What a file holds, told from its bytes: a keyword set, a row file or a byte file.
 
+use crate::records::suffix;
 use bezowik::{BYTES, KEYWORDS, RECORD, ROW, ROWS};
 
 /// The largest number of a byte file.
 const FARTHEST: u8 = 15;
-
-/// The bytes of a row's record that name its suffix: the length, and the suffix with zeros behind it.
-const NAME: usize = 16;
 
 /// The bytes of the longest file of any kind, which is a row file.
 pub const LONGEST: u64 = (ROWS * ROW) as u64;
@@ -46,7 +44,7 @@ impl Kind {
     fn holds(self, bytes: &[u8]) -> bool {
         match self {
             Kind::Set => bezowik::cost(bytes, &[]).number == 0,
-            Kind::Rows => bytes.chunks_exact(ROW).enumerate().all(|(i, row)| names_suffix(row, i > 0)),
+            Kind::Rows => bytes.chunks_exact(ROW).enumerate().all(|(i, row)| names_suffix(row, i == 0)),
             Kind::Bytes => bytes.iter().all(|&number| number <= FARTHEST),
         }
     }
@@ -60,10 +58,9 @@ pub fn kind(bytes: &[u8]) -> Option<Kind> {
     all.into_iter().find(|kind| kind.size_fits(bytes.len() as u64) && kind.holds(bytes))
 }
 
-/// Whether a row's record names a suffix with zeros behind it: the empty one, or one of 1 to 15 bytes.
-fn names_suffix(row: &[u8], some: bool) -> bool {
-    let length = usize::from(row[0]);
-    (length > 0) == some && length < NAME && row[1 + length..NAME].iter().all(|&b| b == 0)
+/// Whether a row's record names a suffix: the empty one, or another.
+fn names_suffix(row: &[u8], empty: bool) -> bool {
+    suffix(row).is_some_and(|suffix| suffix.is_empty() == empty)
 }
 
 #[cfg(test)]

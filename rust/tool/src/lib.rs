@@ -9,6 +9,7 @@ pub mod jobs;
 pub mod keywords;
 pub mod kinds;
 pub mod outputs;
+pub mod records;
 pub mod refusals;
 pub mod sets;
 pub mod tabled;

@@ -2,8 +2,10 @@
 
 use crate::faults::byte_shown;
 use crate::files::{Input, Tables};
+use crate::records::{self, DEPTHS, EDGE, INNER, NAME};
 use crate::text::{hex, shown, shown_name, suffix};
 use crate::Failure;
+use bezowik::sets::keyword;
 use bezowik::{Answer, Table, BYTES, RECORD, ROW, ROWS};
 use std::path::Path;
 
@@ -53,13 +55,13 @@ fn of_set(number: u16, place: usize, set: &[u8]) -> String {
         4 => format!("record {place} has the length {}, and a keyword has 1 to 15 bytes", record(set, place)[0]),
         5 => format!(
             "record {place}, keyword {}: the bytes behind the keyword, up to byte 15, must be zero",
-            shown(word(set, place))
+            shown(&word(set, place))
         ),
         6 => {
             let earlier = (0..place).find(|&i| word(set, i) == word(set, place)).unwrap_or(0);
             format!(
                 "record {place} has the same bytes as record {earlier}, {}: take one of the two out",
-                shown(word(set, place))
+                shown(&word(set, place))
             )
         }
         _ => format!("the set has over {ROWS} rows"),
@@ -72,9 +74,8 @@ fn record(set: &[u8], place: usize) -> &[u8] {
 }
 
 /// The keyword of a record that has passed test 4.
-fn word(set: &[u8], place: usize) -> &[u8] {
-    let record = record(set, place);
-    &record[1..1 + record[0] as usize]
+fn word(set: &[u8], place: usize) -> Vec<u8> {
+    keyword(record(set, place)).word
 }
 
 /// The refusals 10 to 12, beside the table with the largest numbers.
@@ -87,9 +88,9 @@ fn of_rows(number: u16, place: usize, set: &[u8], lent: &Table) -> String {
     let largest = largest(set);
     let found = &lent.rows[ROW * place..ROW * (place + 1)];
     let most = &largest.rows[ROW * place..ROW * (place + 1)];
-    let row = suffix(&most[1..1 + most[0] as usize]);
+    let row = named(most);
     let both = |told: fn(&str, u8, u8) -> String| {
-        format!("{}\n  {}", told("inner", found[16], most[16]), told("edge", found[17], most[17]))
+        format!("{}\n  {}", told("inner", found[INNER], most[INNER]), told("edge", found[EDGE], most[EDGE]))
     };
     match number {
         11 => {
@@ -108,7 +109,7 @@ fn of_bytes(number: u16, place: usize, set: &[u8], lent: &Table) -> String {
             lent.bytes.len()
         );
     }
-    let (byte, depth) = ((place / 16) as u8, place % 16);
+    let (byte, depth) = ((place / DEPTHS) as u8, place % DEPTHS);
     let numbers = judged("far", lent.bytes[place], largest(set).bytes[place]);
     format!("the number of byte {} at depth {depth} is not safe\n  {numbers}", byte_shown(byte))
 }
@@ -133,11 +134,10 @@ fn judged(name: &str, found: u8, most: u8) -> String {
     }
 }
 
-/// The suffix that a record of a row file names, or the record's sixteen bytes where it names none.
+/// The suffix that a record of a row file names, or the record's own bytes where it names none.
 fn named(record: &[u8]) -> String {
-    let n = record[0] as usize;
-    match n <= 15 && record[1 + n..16].iter().all(|&b| b == 0) {
-        true => suffix(&record[1..1 + n]),
-        false => format!("no suffix ({})", hex(&record[..16])),
+    match records::suffix(record) {
+        Some(named) => suffix(named),
+        None => format!("no suffix ({})", hex(&record[..NAME])),
     }
 }

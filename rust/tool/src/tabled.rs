@@ -1,11 +1,11 @@
 //! Skip tables from csv, as `bezowik show` prints them.
 
 use crate::cells::{rows, Fault, Row};
-use crate::faults::DEPTHS;
 use crate::jobs::show::{byte_heads, BYTE_HEAD, ROW_HEADS};
+use crate::records::{self, DEPTHS};
 use crate::sets::hex_bytes;
 use crate::text::plain;
-use bezowik::{BYTES, LONGEST, ROW};
+use bezowik::{BYTES, LONGEST};
 
 /// A row file from its csv, or every wrong line.
 pub fn row_file(csv: &[u8]) -> Result<Vec<u8>, Vec<Fault>> {
@@ -74,11 +74,7 @@ fn row_record(row: usize, cells: &[&str]) -> Result<Vec<u8>, String> {
     if suffix.len() > LONGEST {
         return Err(format!("the suffix has {} bytes, and none has over {LONGEST}", suffix.len()));
     }
-    let mut record = vec![suffix.len() as u8];
-    record.extend(suffix);
-    record.resize(ROW - 2, 0);
-    record.extend([small("inner", inner)?, small("edge", edge)?]);
-    Ok(record)
+    Ok(records::row(&suffix, small("inner", inner)?, small("edge", edge)?))
 }
 
 /// The record of a byte: the byte in hex, and its far numbers.

@@ -1,7 +1,7 @@
 //! `check`: whether skip tables are safe, every number that is not, and how many could be larger.
 
 use super::{print_csv, print_json};
-use crate::arguments::Check;
+use crate::arguments::{Check, Printed};
 use crate::faults::{audit, Audit, Fault};
 use crate::files::{distinct, read, read_tables, Input, Tables};
 use crate::keywords::LEFT;
@@ -29,10 +29,10 @@ fn report(asked: &Check, set: &Input, tables: &Tables, answer: Answer, out: &mut
         Err(refusal) => return accepted(refusal, &lent).map(|_| ()),
     };
     let audit = audit(tables, &largest);
-    match (asked.form.json, asked.form.csv) {
-        (true, _) => print_json(&in_json(asked, tables, answer, &audit), out)?,
-        (_, true) => in_csv(&audit, out)?,
-        _ => in_text(asked, tables, answer, &audit, out)?,
+    match asked.form.printed() {
+        Printed::Json => print_json(&in_json(asked, tables, answer, &audit), out)?,
+        Printed::Csv => in_csv(&audit, out)?,
+        Printed::Text => in_text(asked, tables, answer, &audit, out)?,
     }
     accepted(answer, &lent).map(|_| ()).map_err(first_line)
 }

@@ -1,7 +1,7 @@
 //! `compare`: which of two or more builds draws least, and which sequences make the difference.
 
 use super::{print_csv, print_json};
-use crate::arguments::{Compare, Difference, Percent};
+use crate::arguments::{Compare, Difference, Percent, Printed};
 use crate::counts;
 use crate::files::{distinct, read, read_trace};
 use crate::keywords::{as_csv, as_json, keywords, LEFT};
@@ -47,11 +47,11 @@ pub fn run(asked: &Compare, out: &mut dyn Write) -> Done {
         });
     }
     let lines = ordered(&keywords(&set.bytes), &builds, asked.sort);
-    let shown = &lines[..asked.part.top.unwrap_or(lines.len()).min(lines.len())];
-    match (asked.form.json, asked.form.csv) {
-        (true, _) => print_json(&in_json(asked, &builds, shown), out)?,
-        (_, true) => in_csv(&builds, shown, out)?,
-        _ => write!(out, "{}", in_text(asked, &builds, shown, lines.len(), set.bytes.len() / RECORD))?,
+    let shown = asked.part.of(&lines);
+    match asked.form.printed() {
+        Printed::Json => print_json(&in_json(asked, &builds, shown), out)?,
+        Printed::Csv => in_csv(&builds, shown, out)?,
+        Printed::Text => write!(out, "{}", in_text(asked, &builds, shown, lines.len(), set.bytes.len() / RECORD))?,
     }
     within(asked.fail_over, &builds)
 }

@@ -1,7 +1,7 @@
 //! `scan`: the totals, the part of each keyword, and the first hits where they are asked for.
 
 use super::{print_csv, print_json};
-use crate::arguments::{Look, Order, Scan};
+use crate::arguments::{Look, Order, Printed, Scan};
 use crate::counts::{self, Found};
 use crate::files::{distinct, read, read_tables, read_trace};
 use crate::keywords::{as_csv, as_json, keywords, LEFT};
@@ -33,11 +33,11 @@ pub fn run(asked: &Scan, out: &mut dyn Write) -> Done {
     let found = counts::scan(&set, &trace, tables.as_ref())?;
     let keywords = keywords(&set.bytes);
     let parts = ordered(&keywords, &found, asked.sort);
-    let shown = &parts[..asked.part.top.unwrap_or(parts.len()).min(parts.len())];
-    match (asked.form.json, asked.form.csv) {
-        (true, _) => print_json(&in_json(asked, &found, shown), out),
-        (_, true) => in_csv(asked, &keywords, &found, shown, out),
-        _ => in_text(asked, &keywords, &found, shown, out),
+    let shown = asked.part.of(&parts);
+    match asked.form.printed() {
+        Printed::Json => print_json(&in_json(asked, &found, shown), out),
+        Printed::Csv => in_csv(asked, &keywords, &found, shown, out),
+        Printed::Text => in_text(asked, &keywords, &found, shown, out),
     }
 }
 

@@ -2,10 +2,10 @@
 
 use super::print_csv;
 use crate::arguments::Show;
-use crate::faults::DEPTHS;
 use crate::files::{read, Input};
 use crate::keywords::keywords;
 use crate::kinds::{kind, Kind};
+use crate::records::{suffix, DEPTHS, EDGE, INNER};
 use crate::refusals::{accepted, Lent};
 use crate::text::{cells, hex, shown_name, text};
 use crate::{Done, Failure};
@@ -44,8 +44,8 @@ fn set_lines(set: &[u8]) -> Vec<Vec<String>> {
 /// A row file as `bezowik tables --from` takes it back.
 fn row_lines(rows: &[u8]) -> Vec<Vec<String>> {
     let line = |(row, record): (usize, &[u8])| {
-        let suffix = hex(&record[1..1 + usize::from(record[0])]);
-        vec![row.to_string(), suffix, record[16].to_string(), record[17].to_string()]
+        let suffix = hex(suffix(record).unwrap_or_default());
+        vec![row.to_string(), suffix, record[INNER].to_string(), record[EDGE].to_string()]
     };
     [cells(&ROW_HEADS)].into_iter().chain(rows.chunks_exact(ROW).enumerate().map(line)).collect()
 }
