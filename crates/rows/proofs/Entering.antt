@@ -11,7 +11,7 @@ use Rattle.rules.specs.sets.Sets.{Keyword}
 use Rattle.rules.specs.rows.Rows.{Way, rowsOf}
 use Rattle.rules.specs.answers.Refusals.{pass, refuse, refuseIf, orElse, rowsVerdict, traceVerdict, workspaceVerdict, entryVerdict}
 use Rattle.rules.specs.Beside.{Sound}
-use Rattle.rules.proofs.rows.Rows.{rows-few}
+use Rattle.rules.proofs.rows.Most.{rows-few}
 use Rattle.rules.proofs.answers.Verdicts.{orElse-pass, refuseIf-pass}
 
 -- what the tests let in: rows, a trace of n bytes and a workspace of m numbers

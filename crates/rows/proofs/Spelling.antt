@@ -15,7 +15,8 @@ use Rattle.rules.specs.rows.Rows.{Way, prefixes, meet, rowsOf, rowOf, keyOf}
 use Rattle.rules.specs.Beside.{Sound, noKeyword, nth, Rowed}
 use Rattle.rules.proofs.strings.Strings.{fails, or-fails-left}
 use Rattle.rules.proofs.strings.Orders.{mem-at, ordered-at}
-use Rattle.rules.proofs.rows.Rows.{rowed-rows, rowed-meet, root-row, meet-snoc, meet-old, meet-new, meet-has, meet-reads, rowsOf-snoc, rows-below, rows-grow, rows-few, rowOf-is, rowOf-nil, rowOf-new}
+use Rattle.rules.proofs.rows.Rows.{rowed-rows, rowed-meet, root-row, meet-snoc, meet-old, meet-new, meet-has, meet-reads, rowsOf-snoc, rows-below, rows-grow, rowOf-is, rowOf-nil, rowOf-new}
+use Rattle.rules.proofs.rows.Most.{rows-few}
 use Rattle.rules.proofs.scans.Dictionary.{isKeyword-true}
 use Rattle.rules.proofs.rows.Keys.{keyOf-new, keyOf-fresh}
 use Rattle.words.specs.Read.{readAt}

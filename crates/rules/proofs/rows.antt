@@ -2,6 +2,7 @@
 pub mod Rows
 pub mod PrefixRows
 pub mod Count
+pub mod Most
 pub mod NewRows
 pub mod Children
 pub mod Listed

@@ -5,7 +5,7 @@ use lib.ListN.{length}
 use denote.Ref.{now}
 use borrow.Author.Needs.{needs}
 use Rattle.rules.specs.answers.Refusals.{pass, entryVerdict}
-use Rattle.rules.proofs.rows.Rows.{rows-few}
+use Rattle.rules.proofs.rows.Most.{rows-few}
 use Rattle.words.specs.Items.{keywordsIn}
 use Rattle.words.specs.Read.{wayOf}
 use Rattle.rows.specs.Beginning.{verdictOf}

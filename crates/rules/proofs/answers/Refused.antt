@@ -18,7 +18,7 @@ use Rattle.rules.specs.answers.Promises.{onPass, answerOr, forwardVerdic
 use Rattle.rules.proofs.strings.Strings.{and-left, and-right}
 use Rattle.rules.proofs.answers.Verdicts.{orElse-pass, refuseIf-pass}
 use Rattle.rules.proofs.sets.Sets.{file-few, file-short}
-use Rattle.rules.proofs.rows.Rows.{rows-short}
+use Rattle.rules.proofs.rows.Most.{rows-most}
 use Rattle.rules.proofs.skips.Tables.{suffixRows-length}
 
 -- a number of the table, and a place of at most `most`
@@ -141,7 +141,7 @@ module _ {most : ℕ} where
 
 -- The tests of each job over the whole: the rows that a place tells of are few, since the set passed before.
 pub file-rows : (way : Way) (s : List ℕ) → fileVerdict s ≡ pass → length (rowsOf way (keywords s)) ≤ byteFileSize
-file-rows way s passed = omega (arith, rows-short way (keywords s) (file-short s passed) (file-few s passed))
+file-rows way s passed = omega (arith, rows-most way (keywords s) (file-few s passed) (file-short s passed))
 
 module _ (s : List ℕ) where
   tabled-set : (w : Verdict)

@@ -1,21 +1,20 @@
 -- A set's rows are the empty string and each keyword's prefixes as it is read, each once and behind its parent: because
 -- strings are added one at a time, and a string is added only behind rows that have its parent and not it.
-use Prim.Native.Nat.{ℕ, zero, suc, _+_, _*_, _≤_, _<_}
+use Prim.Native.Nat.{ℕ, zero, suc, _+_, _≤_, _<_}
 use mathlib.Core.Path.{_≡_, refl, sym, _∙_, ap}
 use mathlib.Core.Logic.{_⊎_, inl, inr}
 use mathlib.Core.Bool.{Bool, true, false, _&&_, _||_, cond, or-assoc, or-comm, or-false, and-or-distrib-left}
-use mathlib.Core.List.{List, [], _∷_, _++_, map, map-append, map-map, append-assoc, append-nil, append-cancel-left, List·Memᴰ, List·Memᴰ·head, List·Memᴰ·tail}
+use mathlib.Core.List.{List, [], _∷_, _++_, map, map-append, map-map, append-assoc, append-nil, append-cancel-left, List·Memᴰ}
 use lib.ListN.{length, getD, length-append, length-map, length-reverse, List·getD-append}
 use lib.Seq.{getD-append-seam}
 use lib.Dec.{eqb, ltb}
 use native.Mathlib.Nat.{zero-add}
 use native.Mathlib.Omega.{arith}
 use borrow.Author.Tests.{eqb-true, eqb-false, ltb-true, ltb-false}
-use Rattle.rules.specs.sets.Limits.{longestWord, mostKeywords, mostRows}
 use Rattle.rules.specs.strings.Strings.{same, begins, any}
 use Rattle.rules.specs.sets.Sets.{Keyword}
 use Rattle.rules.specs.rows.Rows.{Way, forward, backward, readBy, starts, prefixes, meet, meetWords, rowsOf, placeFrom, rowOf, parent}
-use Rattle.rules.specs.Beside.{Sound, Rowed}
+use Rattle.rules.specs.Beside.{Rowed}
 use Rattle.rules.proofs.strings.Searched.{any-at}
 use Rattle.rules.proofs.strings.Strings.{either, never, or-cases, or-left, or-right, or-fails-left, or-fails-right, same-true, same-refl, eq-same, begins-true, begins-by, begins-refl, any-true, any-mem, any-append}
 
@@ -454,47 +453,8 @@ unfolding meet prefixes
 rows-grow way ks [] = rw (append-nil ks) (omega arith)
 rows-grow way ks (k ∷ ls) = rows-below way ks ls k [] (readBy way (k .word)) refl
 
--- How many rows there are at most: row 0 and one for each byte of a keyword.
-unfoldable pub total : List Keyword → ℕ
-total [] = 0
-total (k ∷ ks) = length (k .word) + total ks
-
-meet-length : (R ss : List (List ℕ)) → length (meet R ss) ≤ length R + length ss
-unfolding meet
-meet-length R [] = omega arith
-meet-length R (s ∷ ss) =
-    either (any (same s) R)
-    (λ t. rw t (omega (arith, meet-length R ss)))
-    (λ f. rw f (omega (arith, meet-length (R ++ (s ∷ [])) ss, length-append R (s ∷ []))))
-
+-- a word is as long, whichever way it is read
 pub readBy-length : (way : Way) (s : List ℕ) → length (readBy way s) ≡ length s
 unfolding readBy
 readBy-length forward s = refl
 readBy-length backward s = length-reverse s
-
-words-bound : (way : Way) (R : List (List ℕ)) (ks : List Keyword)
-    → length (meetWords R (map (λ (k : Keyword). readBy way (k .word)) ks)) ≤ length R + total ks
-unfolding meetWords total
-words-bound way R [] = omega arith
-words-bound way R (k ∷ ks) =
-    let w = readBy way (k .word) in
-    omega (arith, words-bound way (meet R (prefixes w)) ks, meet-length R (prefixes w), length-prefixes w, readBy-length way (k .word))
-
-pub rows-bound : (way : Way) (ks : List Keyword) → length (rowsOf way ks) ≤ 1 + total ks
-unfolding rowsOf
-rows-bound way ks = words-bound way ([] ∷ []) ks
-
-total-short : (ks : List Keyword) → ((k : Keyword) → List·Memᴰ k ks → length (k .word) ≤ longestWord) → total ks ≤ longestWord * length ks
-unfolding total
-total-short [] short = omega arith
-total-short (k ∷ ks) short =
-    omega (arith, short k (List·Memᴰ·head refl), total-short ks (λ l m. short l (List·Memᴰ·tail m)))
-
-pub rows-short : (way : Way) (ks : List Keyword)
-    → ((k : Keyword) → List·Memᴰ k ks → length (k .word) ≤ longestWord)
-    → length ks ≤ mostKeywords
-    → length (rowsOf way ks) ≤ mostRows
-rows-short way ks short few = omega (arith, rows-bound way ks, total-short ks short)
-
-pub rows-few : (way : Way) (ks : List Keyword) → Sound ks → length (rowsOf way ks) ≤ mostRows
-rows-few way ks sound = rows-short way ks (sound .short) (sound .few)

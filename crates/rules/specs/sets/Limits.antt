@@ -13,10 +13,11 @@ longestWord = 15
 abbrev pub mostEnergy : ℕ
 mostEnergy = 65535
 
--- the most keywords of a set and rows of its workspace
+-- the most keywords of a set
 abbrev pub mostKeywords : ℕ
 mostKeywords = 64
 
+-- the most rows of a set: `rows-most` in proofs/rows/Most.antt says that no set has more
 abbrev pub mostRows : ℕ
 mostRows = 961
 

@@ -9,7 +9,7 @@ use denote.Ref.{now}
 use Rattle.rules.specs.sets.Limits.{rowCells}
 use Rattle.rules.specs.sets.Sets.{Keyword}
 use Rattle.rules.specs.rows.Rows.{forward, rowsOf}
-use Rattle.rules.proofs.rows.Rows.{rows-few}
+use Rattle.rules.proofs.rows.Most.{rows-few}
 use Rattle.rows.specs.Falls.{Fillable}
 use Rattle.rows.proofs.Behind.{childRow, failRow, dictRow, up-ready, fails-root, fails-up, fail-within, dict-keyed, dict-unkeyed, dict-within, child-within, filled}
 use borrow.Author.Needs.{needs}

@@ -11,7 +11,7 @@ use Rattle.rules.specs.sets.Limits.{mostKeywords}
 use Rattle.rules.specs.sets.Sets.{Keyword}
 use Rattle.rules.specs.rows.Rows.{forward, readBy}
 use Rattle.rules.specs.Beside.{nth}
-use Rattle.rules.proofs.rows.Rows.{rows-few}
+use Rattle.rules.proofs.rows.Most.{rows-few}
 use Rattle.words.specs.Items.{Has, keywordsIn}
 use Rattle.words.specs.Read.{wayOf, readAt}
 use Rattle.words.proofs.Items.{has-at}

@@ -9,7 +9,7 @@ use Rattle.rules.specs.rows.Rows.{backward}
 use Rattle.rules.specs.skips.Skips.{suffixRows}
 use Rattle.rules.specs.answers.Refusals.{pass, rowVerdicts}
 use Rattle.rules.specs.answers.Answers.{toldCount, toldCounted}
-use Rattle.rules.proofs.rows.Rows.{rows-few}
+use Rattle.rules.proofs.rows.Most.{rows-few}
 use Rattle.rules.proofs.answers.Counts.{answer-refused, counted-number, counted-refused}
 use Rattle.words.specs.Items.{keywordsIn}
 use Rattle.skips.proofs.Rowwise.{rows-numbered}

@@ -8,7 +8,7 @@ use denote.Ref.{now}
 use Rattle.rules.specs.sets.Limits.{byteFileSize}
 use Rattle.rules.specs.rows.Rows.{backward}
 use Rattle.rules.specs.skips.Skips.{far}
-use Rattle.rules.proofs.rows.Rows.{rows-few}
+use Rattle.rules.proofs.rows.Most.{rows-few}
 use Rattle.rules.proofs.answers.Counts.{answer-refused, answer-passed}
 use Rattle.words.specs.Items.{keywordsIn}
 use Rattle.skips.proofs.Written.{table-place}

@@ -4,7 +4,7 @@ use native.Mathlib.Omega.{arith}
 use denote.Ref.{now}
 use Rattle.rules.specs.sets.Limits.{mostRows}
 use Rattle.rules.specs.rows.Rows.{backward}
-use Rattle.rules.proofs.rows.Rows.{rows-few}
+use Rattle.rules.proofs.rows.Most.{rows-few}
 use Rattle.rules.proofs.answers.Counts.{answer-refused, answer-passed}
 use Rattle.rules.proofs.skips.Tables.{suffixRows-length, suffix-short}
 use Rattle.words.specs.Items.{keywordsIn}
