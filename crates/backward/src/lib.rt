@@ -149,7 +149,7 @@ fn run(
     Seen { tally, questions }
 }
 
-// The backward scan of a trace for the keywords of a list, with a table: refusals 7 to 14, else what was found.
+// The backward scan of a trace for the keywords of a list, with a table: refusals 8 to 14, else what was found.
 fn scan_words(
     words: &[u16],
     trace: &[u8],
@@ -187,7 +187,7 @@ fn scan_words(
     })
 }
 
-// The backward scan of a trace with a set and a table: refusals 1 to 14, else what was found.
+// The backward scan of a trace with a set and a table: refusals 1 to 6 and 8 to 14, else what was found.
 pub fn scan(
     set: &[u8],
     trace: &[u8],

@@ -3,20 +3,17 @@
 use Prim.Native.Nat.{ℕ, _*_, _≤_, _<_}
 use native.Mathlib.Omega.{arith}
 use mathlib.Core.Path.{_≡_, refl, sym, _∙_, ap, subst}
-use mathlib.Core.Logic.{⊎-elim}
-use mathlib.Core.Bool.{false}
 use mathlib.Core.List.{List}
 use lib.ListN.{length}
-use lib.Dec.{ltb}
-use borrow.Author.Tests.{lt-ltb, le-ltb, ltb-false}
+use borrow.Author.Tests.{lt-ltb, le-ltb}
 use Rattle.rules.specs.sets.Limits.{answerSize, rowCells, mostRows}
-use Rattle.rules.specs.sets.Sets.{Keyword, keywords}
-use Rattle.rules.specs.rows.Rows.{forward, rowsOf}
+use Rattle.rules.specs.sets.Sets.{keywords}
 use Rattle.rules.specs.scans.Hits.{over}
-use Rattle.rules.specs.answers.Refusals.{pass, refuse, orElse, fileVerdict, rowsVerdict, traceVerdict, workspaceVerdict, answerVerdict}
+use Rattle.rules.specs.answers.Refusals.{pass, refuse, answerVerdict}
 use Rattle.rules.specs.answers.Answers.{Told, answerBytes}
-use Rattle.rules.specs.answers.Promises.{onPass, kept, answerOr, Forward, forwardTold, forwardVerdict, Backward, Make, Check, hostVerdict, hostTold, Host}
-use Rattle.rules.proofs.answers.Verdicts.{verdict-cases, refuse-orElse, orElse-right, refuseIf-true, refuseIf-false, refuseIf-pass}
+use Rattle.rules.specs.answers.Promises.{onPass, kept, answerOr, Forward, forwardTold, Backward, Make, Check, hostVerdict, hostTold, Host}
+use Rattle.rules.proofs.answers.Verdicts.{refuseIf-true, refuseIf-false}
+use Rattle.rules.proofs.answers.Ample.{forward-ample}
 use Rattle.bezowik.specs.Calls.{Telling, ForwardCall, BackwardCall, MakeCall, CheckCall}
 
 -- a short buffer is refused and left as it was
@@ -25,25 +22,6 @@ unfolding answerVerdict onPass kept
 host-short s t answer short =
     let no : answerVerdict (length answer) ≡ refuse 17 0 = refuseIf-true 17 0 (lt-ltb (length answer) answerSize short) in
     record { numbered = rw no; written = rw no }
-
-rows-passed : (ks : List Keyword) → rowsVerdict forward ks ≡ pass → ltb mostRows (length (rowsOf forward ks)) ≡ false
-unfolding rowsVerdict
-rows-passed ks p = refuseIf-pass 7 0 p
-
--- with room for 961 rows the forward scan's tests are the host call's
-pub enough-room : (s t : List ℕ) (room : ℕ) → rowCells * mostRows ≤ room → forwardVerdict s t room ≡ hostVerdict s t
-unfolding forwardVerdict hostVerdict workspaceVerdict
-enough-room s t room enough =
-    let rows = rowsVerdict forward (keywords s) in
-    let trace = traceVerdict (length t) in
-    ap (orElse (fileVerdict s))
-    (⊎-elim
-    (λ p.
-    let few = ltb-false mostRows (length (rowsOf forward (keywords s))) (rows-passed (keywords s) p) in
-    ap (λ v. orElse rows (orElse trace v)) (refuseIf-false 9 _ (le-ltb room _ (omega (arith, few))))
-    ∙ ap (orElse rows) (orElse-right trace))
-    (λ w. refuse-orElse _ (w .2) ∙ sym (refuse-orElse trace (w .2)))
-    (verdict-cases rows))
 
 -- the answer b of the scan is told as a
 pub host-told : {ws hs ws′ hs′ answer answer′ : List ℕ} (s t : List ℕ) (a b : Told)
@@ -57,7 +35,7 @@ unfolding answerVerdict onPass kept hostTold
 host-told {ws = ws} {answer = answer} s t a b long room promise same written =
     let fine : answerVerdict (length answer) ≡ pass = refuseIf-false 17 0 (le-ltb (length answer) answerSize long) in
     let told : a ≡ answerOr (forwardTold (keywords s) t) (hostVerdict s t) =
-    same ∙ promise .answered ∙ ap (answerOr (forwardTold (keywords s) t)) (enough-room s t (length ws) room) in
+    same ∙ promise .answered ∙ ap (answerOr (forwardTold (keywords s) t)) (forward-ample s t (length ws) room) in
     record {
       numbered = rw fine (ap (λ (x : Told). x .number) told);
       written = rw fine (written ∙ ap (λ (x : Told). over (answerBytes x) answer) told);

@@ -125,7 +125,7 @@ pub(crate) fn proceed(
     next
 }
 
-// The forward scan of a trace with keywords that passed their tests: refusals 7 to 9, else what was found.
+// The forward scan of a trace with keywords that passed their tests: refusals 8 and 9, else what was found.
 fn scan_words(words: &[u16], trace: &[u8], workspace: &mut [u16], hits: &mut [u32]) -> Scanned
     requires { ⌜ Words (now words) × Sound (keywordsIn (now words)) ⌝ }
     ensures { λ r. ⌜
@@ -153,7 +153,7 @@ fn scan_words(words: &[u16], trace: &[u8], workspace: &mut [u16], hits: &mut [u3
     })
 }
 
-// The forward scan of a trace with a set: refusals 1 to 9, else what was found.
+// The forward scan of a trace with a set: refusals 1 to 6, 8 and 9, else what was found.
 pub fn scan(set: &[u8], trace: &[u8], workspace: &mut [u16], hits: &mut [u32]) -> Scanned
     ensures { λ r. ⌜
         Forward (now (set .entry)) (now (trace .entry)) (now (workspace .entry)) (now (hits .entry)) (told r)

@@ -17,7 +17,7 @@ unfoldable pub verdictOf : Verdict → R.Verdict
 verdictOf Pass = R.pass
 verdictOf (Refuse fault) = R.refuse (numberOf fault) (placeOf fault)
 
--- the tests 7 to 9 of a trace of n bytes, the number of rows where they pass, and the workspace with the rows then
+-- the tests 8 and 9 for a trace of n bytes, the number of rows where they pass, and the workspace with the rows then
 pub record Begun (way : Way) (ks : List Keyword) (n : ℕ) (ws : List ℕ) (r : Counted) (ws′ : List ℕ) : Type 0 where
   pub told : toldCounted r ≡ answerOr (toldCount (length (rowsOf way ks))) (R.entryVerdict way ks n (length ws))
   pub rows : ws′ ≡ kept ws (withRows way ks ws) (R.entryVerdict way ks n (length ws))

@@ -1,6 +1,5 @@
-// The tests of rows, trace and workspace that a job begins with, once its keywords are read.
+// The tests of trace and workspace that a job begins with, once its keywords are read.
 use rules::CELLS;
-use rules::ROWS;
 use rules::Refusal;
 use rules::TRACE;
 use rules::WORKSPACE;
@@ -19,24 +18,19 @@ pub(crate) enum Verdict {
     Refuse(Refusal),
 }
 
-// The tests 7 to 9 of keywords that are read one way, a trace of so many bytes and a workspace of so many numbers. A
+// The tests 8 and 9 of keywords that are read one way, a trace of so many bytes and a workspace of so many numbers. A
 // workspace that is enough for every set needs no count of the rows.
 pub(crate) fn enter(words: &[u16], way: Way, trace: usize, room: usize) -> Verdict
     requires { ⌜ Words (now words) × Sound (keywordsIn (now words)) ⌝ }
     ensures { λ r. ⌜ verdictOf r ≡ entryVerdict (wayOf way) (keywordsIn (now (words .entry))) trace room ⌝ }
 {
-    if trace <= TRACE {
-        if WORKSPACE <= room {
-            return Verdict::Pass;
-        }
-    }
-    let rows = count_rows(words, way);
-    if ROWS < rows {
-        return Verdict::Refuse(Refusal::TooManyRows);
-    }
     if TRACE < trace {
         return Verdict::Refuse(Refusal::TraceTooLong);
     }
+    if WORKSPACE <= room {
+        return Verdict::Pass;
+    }
+    let rows = count_rows(words, way);
     if room < CELLS * rows {
         return Verdict::Refuse(Refusal::WorkspaceShort { rows: rows as u16 });
     }

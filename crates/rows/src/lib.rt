@@ -4,7 +4,7 @@ pub mod tree; // tree.rt: the child question, and one row more
 pub mod build; // build.rt: the rows of keywords
 pub mod failures; // failures.rt: the step that follows failures, and the failure of one row
 pub mod levels; // levels.rt: the failures of all rows
-pub mod entry; // entry.rt: the tests of rows, trace and workspace that a job begins with
+pub mod entry; // entry.rt: the tests of trace and workspace that a job begins with
 
 use crate::entry::Verdict;
 use crate::entry::enter;
@@ -40,7 +40,7 @@ fn lay(ws: &mut [u16], words: &[u16], way: Way) -> usize
     rows
 }
 
-// What each job begins with, once its keywords are read: the tests 7 to 9 of a trace of so many bytes and of the
+// What each job begins with, once its keywords are read: the tests 8 and 9, of a trace of so many bytes and of the
 // workspace, and where they pass the rows at its front; how many there are, or the refusal. A job that has no trace
 // passes none, and test 8 passes.
 pub fn begin(ws: &mut [u16], words: &[u16], way: Way, trace: usize) -> Counted

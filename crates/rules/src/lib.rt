@@ -1,15 +1,13 @@
 // What document 01 counts with, and how its answers are put in Rattle.
 
-// The most keywords of a set, bytes of a keyword, rows of a set and bytes of a trace.
+// The most keywords of a set, bytes of a keyword and bytes of a trace.
 pub const KEYWORDS: usize = 64;
 
 pub const LONGEST: usize = 15;
 
-pub const ROWS: usize = 961;
-
 pub const TRACE: usize = 1048576;
 
-// The numbers of a row in a workspace, and of a workspace that is enough for every set.
+// The numbers of a row in a workspace, and of a workspace that is enough for every set: none has over 961 rows.
 pub const CELLS: usize = 6;
 
 pub const WORKSPACE: usize = 5766;
@@ -41,7 +39,6 @@ pub enum Refusal {
     Length { record: u16 },
     Padding { record: u16 },
     Repeated { record: u16 },
-    TooManyRows,
     TraceTooLong,
     WorkspaceShort { rows: u16 },
     RowFileSize { rows: u16 },

@@ -9,10 +9,10 @@ use Rattle.rules.specs.sets.Sets.{Keyword, keywords}
 use Rattle.rules.specs.rows.Rows.{backward}
 use Rattle.rules.specs.answers.Refusals.{Verdict, pass, orElse, tableVerdict}
 use Rattle.rules.specs.answers.Answers.{Told}
-use Rattle.rules.specs.answers.Promises.{rowsTold, roomVerdict, tableEntry, Check, CheckOf}
+use Rattle.rules.specs.answers.Promises.{rowsTold, tableEntry, Check, CheckOf}
 use Rattle.rules.specs.scans.Audit.{Accepted}
 use Rattle.rules.proofs.answers.Verdicts.{orElse-pass, orElse-exactly}
-use Rattle.rules.proofs.answers.Refused.{Numbered, numbered-both, numbered-file, numbered-size, numbered-workspace, numbered-table, answered-passed}
+use Rattle.rules.proofs.answers.Refused.{Numbered, numbered-both, numbered-file, numbered-workspace, numbered-table, answered-passed}
 use Rattle.rules.proofs.answers.Counts.{answer-passed}
 use Rattle.rules.proofs.skips.Tables.{accepted-exactly}
 
@@ -45,10 +45,8 @@ module _ {v : Verdict} {ks : List Keyword} {rowf bytef ws : List ℕ} {answer : 
 
 -- The check of a set's bytes accepts exactly the safe tables.
 pub entry-numbered : (s : List ℕ) (room : ℕ) → Numbered (tableEntry s room)
-unfolding tableEntry roomVerdict
-entry-numbered s room =
-    numbered-both _ _ (numbered-file s)
-    (numbered-both _ _ (numbered-size backward (keywords s)) (numbered-workspace backward (keywords s) room))
+unfolding tableEntry
+entry-numbered s room = numbered-both _ _ (numbered-file s) (numbered-workspace backward (keywords s) room)
 
 pub check-accepts : (s : List ℕ) {rowf bytef ws : List ℕ} {answer : Told} {ws′ : List ℕ} → Check s rowf bytef ws answer ws′
     → (answer .number ≡ 0) ↔ ((tableEntry s (length ws) ≡ pass) × Accepted (keywords s) rowf bytef)

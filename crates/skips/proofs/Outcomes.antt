@@ -12,9 +12,9 @@ use Rattle.rules.specs.sets.Sets.{Keyword, keywords}
 use Rattle.rules.specs.rows.Rows.{backward}
 use Rattle.rules.specs.scans.Hits.{over}
 use Rattle.rules.specs.skips.Skips.{rowFile, byteFile}
-use Rattle.rules.specs.answers.Refusals.{refuse, refuseIf, orElse, fileVerdict, traceVerdict, entryVerdict, tableVerdict, bufferVerdict}
+use Rattle.rules.specs.answers.Refusals.{refuse, refuseIf, orElse, fileVerdict, traceVerdict, workspaceVerdict, entryVerdict, tableVerdict, bufferVerdict}
 use Rattle.rules.specs.answers.Answers.{Told, numberOf, placeOf, toldCounted}
-use Rattle.rules.specs.answers.Promises.{onPass, kept, answerOr, roomVerdict, tableEntry, rowsTold, Make, MakeOf, makeVerdict, Check, CheckOf}
+use Rattle.rules.specs.answers.Promises.{onPass, kept, answerOr, tableEntry, rowsTold, Make, MakeOf, makeVerdict, Check, CheckOf}
 use Rattle.rules.proofs.answers.Verdicts.{pass-orElse, refuse-orElse}
 use Rattle.rules.proofs.answers.Counts.{answer-refused}
 use Rattle.words.specs.Items.{keywordsIn}
@@ -23,8 +23,8 @@ use Rattle.rows.specs.Beginning.{Begun}
 use Rattle.rows.proofs.Begun.{begun-refused, begun-laid}
 
 -- the verdict of a job that has entered with no trace: test 8 passes
-room-entry : (ks : List Keyword) (room : ℕ) → entryVerdict backward ks 0 room ≡ roomVerdict ks room
-unfolding roomVerdict traceVerdict refuseIf orElse
+room-entry : (ks : List Keyword) (room : ℕ) → entryVerdict backward ks 0 room ≡ workspaceVerdict backward ks room
+unfolding traceVerdict refuseIf orElse
 room-entry ks room = refl
 
 -- The check: refused on entry, or as the table's tests say.
@@ -104,13 +104,14 @@ module _ {ks : List Keyword} {ws ws′ : List ℕ} (rowb byteb : List ℕ) where
 -- With the words of a set that was read, and with a set that was refused.
 entry-read : {s l : List ℕ} (room : ℕ) → Opened s l → tableEntry s room ≡ entryVerdict backward (keywords s) 0 room
 unfolding tableEntry
-entry-read {s} room so = pass-orElse (roomVerdict (keywords s) room) (so .passed) ∙ sym (room-entry (keywords s) room)
+entry-read {s} room so =
+    pass-orElse (workspaceVerdict backward (keywords s) room) (so .passed) ∙ sym (room-entry (keywords s) room)
 
 entry-unread : (s : List ℕ) (room : ℕ) (fault : Refusal)
     → fileVerdict s ≡ refuse (numberOf fault) (placeOf fault)
     → tableEntry s room ≡ refuse (numberOf fault) (placeOf fault)
 unfolding tableEntry
-entry-unread s room fault e = refuse-orElse (roomVerdict (keywords s) room) e
+entry-unread s room fault e = refuse-orElse (workspaceVerdict backward (keywords s) room) e
 
 pub make-read : {s l ws rowb byteb : List ℕ} {a : Told} {ws′ rowb′ byteb′ : List ℕ}
     → Opened s l

@@ -25,7 +25,7 @@ ghost use Rattle.rules.specs.answers.Promises.{Make, MakeOf, Check, CheckOf};
 ghost use Rattle.rules.specs.Beside.{Sound};
 ghost use Rattle.words.specs.Items.{Words, keywordsIn};
 
-// Making for the words of a set: refusals 7, 9, 15 and 16, else the number of rows.
+// Making for the words of a set: refusals 9, 15 and 16, else the number of rows.
 fn make_words(
     words: &[u16],
     workspace: &mut [u16],
@@ -58,7 +58,7 @@ fn make_words(
     }
 }
 
-// The largest numbers of a set, at the front of two lent buffers: refusals 1 to 7, 9, 15 and 16, else the number of
+// The largest numbers of a set, at the front of two lent buffers: refusals 1 to 6, 9, 15 and 16, else the number of
 // rows.
 pub fn make(
     set: &[u8],
@@ -83,7 +83,7 @@ pub fn make(
 }
 
 // The check for the keywords of a list, and what a scan of a trace of so many bytes under the table begins with:
-// refusals 7 to 14, else the number of rows.
+// refusals 8 to 14, else the number of rows.
 pub fn check_words(
     words: &[u16],
     trace: usize,
@@ -105,7 +105,7 @@ pub fn check_words(
     }
 }
 
-// Whether a table is safe for a set: refusals 1 to 7 and 9 to 14, else the number of rows.
+// Whether a table is safe for a set: refusals 1 to 6 and 9 to 14, else the number of rows.
 pub fn check(set: &[u8], row_file: &[u8], byte_file: &[u8], workspace: &mut [u16]) -> Counted
     ensures { λ r. ⌜
         Check (now (set .entry)) (now («row_file» .entry)) (now («byte_file» .entry)) (now (workspace .entry)) (toldCounted r)

@@ -6,7 +6,7 @@ use lib.ListN.{length, getD}
 use native.Mathlib.Nat.{pow-suc}
 use native.Mathlib.Omega.{arith}
 use Rattle.rules.specs.declared.Refusal.{Refusal}
-use Rattle.rules.specs.declared.Refusal.the-variants.{SetEmpty, SetSize, TooManyKeywords, Length, Padding, Repeated, TooManyRows, TraceTooLong, WorkspaceShort, RowFileSize, RowNamesAnother, RowNumber, ByteFileSize, FarNumber, RowBufferShort, ByteBufferShort, AnswerShort}
+use Rattle.rules.specs.declared.Refusal.the-variants.{SetEmpty, SetSize, TooManyKeywords, Length, Padding, Repeated, TraceTooLong, WorkspaceShort, RowFileSize, RowNamesAnother, RowNumber, ByteFileSize, FarNumber, RowBufferShort, ByteBufferShort, AnswerShort}
 use Rattle.rules.specs.declared.Scanned.{Scanned}
 use Rattle.rules.specs.declared.Counted.{Counted}
 use Rattle.rules.specs.sets.Limits.{answerSize}
@@ -16,7 +16,7 @@ use Rattle.rules.specs.answers.Answers.{numberOf, placeOf, Told, told, t
 pub read-back {ℓ κ} : {A : Type ℓ} {B : Type κ} (f : A → B) (g : B → A) → ((a : A) → g (f a) ≡ a) → (a b : A) → f a ≡ f b → a ≡ b
 read-back f g back a b e = sym (back a) ∙ ap g e ∙ back b
 
--- the refusals by number, from 1 on, each with the place p where it has one
+-- the refusals by number, from 1 on, each with the place p where it has one; at the number 7, which none has, any
 refusals : ℕ → List Refusal
 refusals p =
     SetEmpty
@@ -25,7 +25,7 @@ refusals p =
     ∷ Length p
     ∷ Padding p
     ∷ Repeated p
-    ∷ TooManyRows
+    ∷ SetEmpty
     ∷ TraceTooLong
     ∷ WorkspaceShort p
     ∷ RowFileSize p
@@ -51,7 +51,6 @@ answerBy-refusal a f TooManyKeywords = refl
 answerBy-refusal a f (Length i) = refl
 answerBy-refusal a f (Padding i) = refl
 answerBy-refusal a f (Repeated i) = refl
-answerBy-refusal a f TooManyRows = refl
 answerBy-refusal a f TraceTooLong = refl
 answerBy-refusal a f (WorkspaceShort n) = refl
 answerBy-refusal a f (RowFileSize n) = refl

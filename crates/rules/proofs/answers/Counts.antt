@@ -2,33 +2,36 @@
 use Prim.Native.Nat.{ℕ, _≤_}
 use native.Mathlib.Omega.{arith}
 use mathlib.Core.Path.{_≡_, refl, ap}
+use mathlib.Core.Bool.{true}
 use Rattle.rules.specs.declared.Refusal.{Refusal}
-use Rattle.rules.specs.declared.Refusal.the-variants.{SetEmpty, SetSize, TooManyKeywords, Length, Padding, Repeated, TooManyRows, TraceTooLong, WorkspaceShort, RowFileSize, RowNamesAnother, RowNumber, ByteFileSize, FarNumber, RowBufferShort, ByteBufferShort, AnswerShort}
+use Rattle.rules.specs.declared.Refusal.the-variants.{SetEmpty, SetSize, TooManyKeywords, Length, Padding, Repeated, TraceTooLong, WorkspaceShort, RowFileSize, RowNamesAnother, RowNumber, ByteFileSize, FarNumber, RowBufferShort, ByteBufferShort, AnswerShort}
 use Rattle.rules.specs.declared.Counted.{Counted}
 use Rattle.rules.specs.answers.Refusals.{Verdict, pass, refuse}
 use Rattle.rules.specs.answers.Answers.{Told, numberOf, placeOf, toldCount, toldCounted, toldRefusal}
 use Rattle.rules.specs.answers.Promises.{onPass, answerOr}
-use Rattle.rules.proofs.answers.Refused.{Numbered, answered-passed}
+use Rattle.rules.proofs.answers.Refused.{inTable, given, Numbered, answered-passed}
 
--- each refusal's number is 1 or more
+-- each refusal's number is one of the table's
+pub refusal-given : (r : Refusal) → inTable (numberOf r) ≡ true
+refusal-given SetEmpty = refl
+refusal-given SetSize = refl
+refusal-given TooManyKeywords = refl
+refusal-given (Length i) = refl
+refusal-given (Padding i) = refl
+refusal-given (Repeated i) = refl
+refusal-given TraceTooLong = refl
+refusal-given (WorkspaceShort n) = refl
+refusal-given (RowFileSize n) = refl
+refusal-given (RowNamesAnother i) = refl
+refusal-given (RowNumber i) = refl
+refusal-given ByteFileSize = refl
+refusal-given (FarNumber p) = refl
+refusal-given (RowBufferShort n) = refl
+refusal-given ByteBufferShort = refl
+refusal-given AnswerShort = refl
+
 pub refusal-numbered : (r : Refusal) → 1 ≤ numberOf r
-refusal-numbered SetEmpty = omega arith
-refusal-numbered SetSize = omega arith
-refusal-numbered TooManyKeywords = omega arith
-refusal-numbered (Length i) = omega arith
-refusal-numbered (Padding i) = omega arith
-refusal-numbered (Repeated i) = omega arith
-refusal-numbered TooManyRows = omega arith
-refusal-numbered TraceTooLong = omega arith
-refusal-numbered (WorkspaceShort n) = omega arith
-refusal-numbered (RowFileSize n) = omega arith
-refusal-numbered (RowNamesAnother i) = omega arith
-refusal-numbered (RowNumber i) = omega arith
-refusal-numbered ByteFileSize = omega arith
-refusal-numbered (FarNumber p) = omega arith
-refusal-numbered (RowBufferShort n) = omega arith
-refusal-numbered ByteBufferShort = omega arith
-refusal-numbered AnswerShort = omega arith
+refusal-numbered r = given (numberOf r) (refusal-given r) .some
 
 -- a refusal's answer, whatever would have been answered else
 pub answer-refused : (a : Told) {v : Verdict} {n p : ℕ} → v ≡ refuse n p → toldRefusal n p ≡ answerOr a v

@@ -30,7 +30,7 @@ answer-fits {v = refuse n p} tabled own e =
     let entry : Line byteFileSize n p = tabled n p refl in
     rw e
     (record {
-      number-fits = omega (arith, entry .known);
+      number-fits = omega (arith, entry .number .known);
       place-fits = omega (arith, entry .near);
       count-fits = omega arith;
       questions-fits = omega arith;
@@ -43,7 +43,7 @@ unfolding traceVerdict
 trace-near n passed = ltb-false longestTrace n (refuseIf-pass 8 0 passed)
 
 entry-near : (way : Way) (ks : List Keyword) (n room : ℕ) → entryVerdict way ks n room ≡ pass → n ≤ longestTrace
-entry-near way ks n room passed = trace-near n (orElse-pass _ _ (orElse-pass _ _ passed .1) .0)
+entry-near way ks n room passed = trace-near n (orElse-pass _ _ passed .0)
 
 scan-fits : {ks : List Keyword} → Sound ks → (t : List ℕ) (asked : ℕ)
     → length t ≤ longestTrace
@@ -124,7 +124,7 @@ module _ (s : List ℕ) where
         answer-fits (tabled-host s t)
         (λ passed.
         let both = orElse-pass _ _ passed in
-        forward-told-fits (bytes-sound s bytes (both .0)) t (trace-near (length t) (orElse-pass _ _ (both .1) .1)))
+        forward-told-fits (bytes-sound s bytes (both .0)) t (trace-near (length t) (both .1)))
         refl
 
 -- So the twenty bytes of the host call say which numbers they were.

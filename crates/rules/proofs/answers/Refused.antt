@@ -1,38 +1,51 @@
--- Each refusal has a number of the table, 1 to 17, and a place within a bound: each test's has, and so has the first's.
--- So an answer with the number 0 says that there is no refusal.
+-- Each refusal has a number of the table, 1 to 17 without 7, and a place within a bound: each test's has, and so has the
+-- first's. So an answer with the number 0 says that there is no refusal, and none has the number 7.
 use Prim.Native.Nat.{ℕ, zero, suc, _+_, _≤_, _/_}
-use mathlib.Core.Path.{_≡_, refl, sym, _∙_, ap}
-use mathlib.Core.Bool.{Bool, true, false, _&&_}
+use mathlib.Core.Path.{_≡_, refl, sym, _∙_, ap, subst}
+use mathlib.Core.Bool.{Bool, true, false, _&&_, not}
 use mathlib.Core.List.{List, [], _++_, _∷_}
 use lib.ListN.{length, take, drop}
 use native.Mathlib.Omega.{arith}
-use lib.Dec.{leb}
-use borrow.Author.Tests.{leb-true, ltb-false}
+use lib.Dec.{eqb, leb}
+use borrow.Author.Tests.{eqb-false, leb-true, ltb-false, not-true}
 use Rattle.rules.specs.sets.Limits.{recordSize, mostKeywords, rowRecord, byteFileSize}
 use Rattle.rules.specs.sets.Sets.{Keyword, keywordOf, keywords}
 use Rattle.rules.specs.rows.Rows.{Way, forward, backward, rowsOf}
 use Rattle.rules.specs.skips.Skips.{suffixRows}
-use Rattle.rules.specs.answers.Refusals.{Verdict, pass, refuse, refuseIf, orElse, recordVerdict, recordVerdicts, fileVerdict, rowsVerdict, traceVerdict, workspaceVerdict, entryVerdict, rowVerdicts, farVerdicts, tableVerdict, bufferVerdict}
+use Rattle.rules.specs.answers.Refusals.{Verdict, pass, refuse, refuseIf, orElse, recordVerdict, recordVerdicts, fileVerdict, traceVerdict, workspaceVerdict, entryVerdict, rowVerdicts, farVerdicts, tableVerdict, bufferVerdict}
 use Rattle.rules.specs.answers.Answers.{Told}
-use Rattle.rules.specs.answers.Promises.{onPass, answerOr, forwardVerdict, backwardEntry, roomVerdict, tableEntry, makeVerdict, hostVerdict}
+use Rattle.rules.specs.answers.Promises.{onPass, answerOr, forwardVerdict, backwardEntry, tableEntry, makeVerdict, hostVerdict}
 use Rattle.rules.proofs.strings.Strings.{and-left, and-right}
 use Rattle.rules.proofs.answers.Verdicts.{orElse-pass, refuseIf-pass}
 use Rattle.rules.proofs.sets.Sets.{file-few, file-short}
 use Rattle.rules.proofs.rows.Most.{rows-most}
 use Rattle.rules.proofs.skips.Tables.{suffixRows-length}
 
--- a number of the table, and a place of at most `most`
-pub record Line (most n p : ℕ) : Type 0 where
+-- the table's numbers
+abbrev pub inTable : ℕ → Bool
+inTable n = leb 1 n && (leb n 17 && not (eqb n 7))
+
+pub record Given (n : ℕ) : Type 0 where
   pub some : 1 ≤ n
   pub known : n ≤ 17
+  pub not-seven : n ≡ 7 → ⊥
+
+pub given : (n : ℕ) → inTable n ≡ true → Given n
+given n listed =
+    let rest : (leb n 17 && not (eqb n 7)) ≡ true = and-right (leb 1 n) (leb n 17 && not (eqb n 7)) listed in
+    record {
+      some = leb-true 1 n (and-left (leb 1 n) (leb n 17 && not (eqb n 7)) listed);
+      known = leb-true n 17 (and-left (leb n 17) (not (eqb n 7)) rest);
+      not-seven = eqb-false n 7 (not-true (eqb n 7) (and-right (leb n 17) (not (eqb n 7)) rest));
+    }
+
+-- a number of the table, and a place of at most `most`
+pub record Line (most n p : ℕ) : Type 0 where
+  pub number : Given n
   pub near : p ≤ most
 
 abbrev pub Tabled : ℕ → Verdict → Type 0
 Tabled most v = (n p : ℕ) → v ≡ refuse n p → Line most n p
-
--- the table's numbers
-abbrev inTable : ℕ → Bool
-inTable n = leb 1 n && leb n 17
 
 module _ {most : ℕ} where
   tabled-pass : Tabled most pass
@@ -43,9 +56,7 @@ module _ {most : ℕ} where
   tabled-if true n p listed near m q e =
       let number : n ≡ m = cc in
       let place : p ≡ q = cc in
-      let low : 1 ≤ n = leb-true 1 n (and-left (leb 1 n) (leb n 17) listed) in
-      let high : n ≤ 17 = leb-true n 17 (and-right (leb 1 n) (leb n 17) listed) in
-      record { some = omega arith; known = omega arith; near = omega arith }
+      record { number = subst Given number (given n listed); near = omega arith }
   tabled-if false n p listed near m q e = tabled-pass m q e
 
   -- a later test speaks only where the earlier ones passed
@@ -81,10 +92,6 @@ module _ {most : ℕ} where
       ltb-false mostKeywords (length s / recordSize) (refuseIf-pass 3 0 few) in
       tabled-records (length s / recordSize) 0 [] s (omega arith))))
 
-  tabled-size : (way : Way) (ks : List Keyword) → Tabled most (rowsVerdict way ks)
-  unfolding rowsVerdict
-  tabled-size way ks = tabled-if _ 7 0 refl (omega arith)
-
   tabled-trace : (n : ℕ) → Tabled most (traceVerdict n)
   unfolding traceVerdict
   tabled-trace n = tabled-if _ 8 0 refl (omega arith)
@@ -98,8 +105,7 @@ module _ {most : ℕ} where
   tabled-entry : (way : Way) (ks : List Keyword) (n room : ℕ)
       → length (rowsOf way ks) ≤ most
       → Tabled most (entryVerdict way ks n room)
-  tabled-entry way ks n room near =
-      tabled-both _ _ (tabled-size way ks) (λ _. tabled-both _ _ (tabled-trace n) (λ _. tabled-workspace way ks room near))
+  tabled-entry way ks n room near = tabled-both _ _ (tabled-trace n) (λ _. tabled-workspace way ks room near)
 
   -- the tests of a table, and of the buffers for one
   tabled-rows : (ks : List Keyword) (i : ℕ) (vs : List (List ℕ)) (f : List ℕ)
@@ -158,12 +164,9 @@ module _ (s : List ℕ) where
       tabled-both _ _ f (λ passed. g (file-rows backward s (orElse-pass (fileVerdict s) v passed .0)))
 
   tabled-room : (room : ℕ) → Tabled byteFileSize (tableEntry s room)
-  unfolding tableEntry roomVerdict
+  unfolding tableEntry
   tabled-room room =
-      tabled-set _
-      (λ passed.
-      tabled-both _ _ (tabled-size backward (keywords s))
-      (λ _. tabled-workspace backward (keywords s) room (file-rows backward s passed)))
+      tabled-set _ (λ passed. tabled-workspace backward (keywords s) room (file-rows backward s passed))
 
   pub tabled-forward : (t : List ℕ) (room : ℕ) → Tabled byteFileSize (forwardVerdict s t room)
   unfolding forwardVerdict
@@ -192,15 +195,14 @@ module _ (s : List ℕ) where
 
   pub tabled-host : (t : List ℕ) → Tabled byteFileSize (hostVerdict s t)
   unfolding hostVerdict
-  tabled-host t =
-      tabled-set _ (λ _. tabled-both _ _ (tabled-size forward (keywords s)) (λ _. tabled-trace (length t)))
+  tabled-host t = tabled-set _ (λ _. tabled-trace (length t))
 
 -- No refusal has the number 0.
 abbrev pub Numbered : Verdict → Type 0
 Numbered v = (p : ℕ) → v ≡ refuse 0 p → ⊥
 
 pub numbered : {most : ℕ} {v : Verdict} → Tabled most v → Numbered v
-numbered tabled p e = omega (arith, tabled 0 p e .some)
+numbered tabled p e = omega (arith, tabled 0 p e .number .some)
 
 pub numbered-if : (b : Bool) (n p : ℕ) → 1 ≤ n → Numbered (refuseIf b n p)
 unfolding refuseIf
@@ -217,9 +219,6 @@ numbered-record i ks r = numbered (tabled-record {most = i} i ks r (omega arith)
 
 pub numbered-file : (s : List ℕ) → Numbered (fileVerdict s)
 numbered-file s = numbered (tabled-file {most = mostKeywords} s (omega arith))
-
-pub numbered-size : (way : Way) (ks : List Keyword) → Numbered (rowsVerdict way ks)
-numbered-size way ks = numbered (tabled-size {most = 0} way ks)
 
 pub numbered-workspace : (way : Way) (ks : List Keyword) (room : ℕ) → Numbered (workspaceVerdict way ks room)
 numbered-workspace way ks room = numbered (tabled-workspace {most = length (rowsOf way ks)} way ks room (omega arith))

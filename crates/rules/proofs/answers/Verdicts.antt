@@ -38,6 +38,12 @@ unfolding orElse
 orElse-right pass = refl
 orElse-right (refuse n p) = refl
 
+-- a later test matters only where the earlier one passes
+pub orElse-behind : (u : Verdict) {v w : Verdict} → (u ≡ pass → v ≡ w) → orElse u v ≡ orElse u w
+unfolding orElse
+orElse-behind pass e = e refl
+orElse-behind (refuse n p) e = refl
+
 -- refuseIf: a refusal exactly where the test shows a fault
 pub refuseIf-true : {b : Bool} (n p : ℕ) → b ≡ true → refuseIf b n p ≡ refuse n p
 unfolding refuseIf

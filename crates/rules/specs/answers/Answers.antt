@@ -2,11 +2,11 @@
 use Prim.Native.Nat.{ℕ, zero, suc, _/_, _%_}
 use mathlib.Core.List.{List, [], _∷_, _++_}
 use Rattle.rules.specs.declared.Refusal.{Refusal}
-use Rattle.rules.specs.declared.Refusal.the-variants.{SetEmpty, SetSize, TooManyKeywords, Length, Padding, Repeated, TooManyRows, TraceTooLong, WorkspaceShort, RowFileSize, RowNamesAnother, RowNumber, ByteFileSize, FarNumber, RowBufferShort, ByteBufferShort, AnswerShort}
+use Rattle.rules.specs.declared.Refusal.the-variants.{SetEmpty, SetSize, TooManyKeywords, Length, Padding, Repeated, TraceTooLong, WorkspaceShort, RowFileSize, RowNamesAnother, RowNumber, ByteFileSize, FarNumber, RowBufferShort, ByteBufferShort, AnswerShort}
 use Rattle.rules.specs.declared.Scanned.{Scanned}
 use Rattle.rules.specs.declared.Counted.{Counted}
 
--- document 01's table of refusals: the number, and the place or 0 where none is named
+-- document 01's table of refusals: the number, and the place or 0 where none is named; no refusal has the number 7
 abbrev pub numberAndPlace : Refusal → ℕ × ℕ
 numberAndPlace SetEmpty = (1, 0)
 numberAndPlace SetSize = (2, 0)
@@ -14,7 +14,6 @@ numberAndPlace TooManyKeywords = (3, 0)
 numberAndPlace (Length i) = (4, i)
 numberAndPlace (Padding i) = (5, i)
 numberAndPlace (Repeated i) = (6, i)
-numberAndPlace TooManyRows = (7, 0)
 numberAndPlace TraceTooLong = (8, 0)
 numberAndPlace (WorkspaceShort n) = (9, n)
 numberAndPlace (RowFileSize n) = (10, n)

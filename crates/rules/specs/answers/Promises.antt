@@ -9,7 +9,7 @@ use Rattle.rules.specs.scans.Hits.{hits, energy, over, hitBuffer}
 use Rattle.rules.specs.scans.Questions.{questions}
 use Rattle.rules.specs.skips.Skips.{rowFile, byteFile}
 use Rattle.rules.specs.skips.Runs.{runQuestions}
-use Rattle.rules.specs.answers.Refusals.{Verdict, pass, refuse, orElse, fileVerdict, rowsVerdict, traceVerdict, workspaceVerdict, entryVerdict, tableVerdict, bufferVerdict, answerVerdict}
+use Rattle.rules.specs.answers.Refusals.{Verdict, pass, refuse, orElse, fileVerdict, traceVerdict, workspaceVerdict, entryVerdict, tableVerdict, bufferVerdict, answerVerdict}
 use Rattle.rules.specs.answers.Answers.{Told, toldRefusal, toldCount, answerBytes}
 
 -- what is left on a refusal, and what where there is none
@@ -45,14 +45,14 @@ pub record ForwardOf (v : Verdict) (ks : List Keyword) (t ws hs : List ℕ) (ans
   pub rows : ws′ ≡ kept ws (withRows forward ks ws) v
   pub listed : hs′ ≡ kept hs (hitBuffer (hits ks t) hs) v
 
--- its tests: 1 to 9
+-- its tests: 1 to 6, 8 and 9
 unfoldable pub forwardVerdict : List ℕ → List ℕ → ℕ → Verdict
 forwardVerdict s t room = orElse (fileVerdict s) (entryVerdict forward (keywords s) (length t) room)
 
 abbrev pub Forward : List ℕ → List ℕ → List ℕ → List ℕ → Told → List ℕ → List ℕ → Type 0
 Forward s t ws hs = ForwardOf (forwardVerdict s t (length ws)) (keywords s) t ws hs
 
--- The backward scan, where the tests 1 to 9 said v: then 10 to 14, after which the workspace holds the rows.
+-- The backward scan, where the same tests said v: then 10 to 14, after which the workspace holds the rows.
 unfoldable pub backwardTold : List Keyword → List ℕ → List ℕ → List ℕ → Told
 backwardTold ks t rowf bytef =
     record {
@@ -74,12 +74,9 @@ backwardEntry s t room = orElse (fileVerdict s) (entryVerdict backward (keywords
 abbrev pub Backward : List ℕ → List ℕ → List ℕ → List ℕ → List ℕ → List ℕ → Told → List ℕ → List ℕ → Type 0
 Backward s t rowf bytef ws hs = BackwardOf (backwardEntry s t (length ws)) (keywords s) t rowf bytef ws hs
 
--- Making and the check have no trace: tests 1 to 7 and 9 before the workspace is written.
-unfoldable pub roomVerdict : List Keyword → ℕ → Verdict
-roomVerdict ks room = orElse (rowsVerdict backward ks) (workspaceVerdict backward ks room)
-
+-- Making and the check have no trace: tests 1 to 6 and 9 before the workspace is written.
 unfoldable pub tableEntry : List ℕ → ℕ → Verdict
-tableEntry s room = orElse (fileVerdict s) (roomVerdict (keywords s) room)
+tableEntry s room = orElse (fileVerdict s) (workspaceVerdict backward (keywords s) room)
 
 -- how many rows there are, as making and the check answer it
 unfoldable pub rowsTold : List Keyword → Told
@@ -106,9 +103,9 @@ pub record CheckOf (v : Verdict) (ks : List Keyword) (rowf bytef ws : List ℕ) 
 abbrev pub Check : List ℕ → List ℕ → List ℕ → List ℕ → Told → List ℕ → Type 0
 Check s rowf bytef ws = CheckOf (tableEntry s (length ws)) (keywords s) rowf bytef ws
 
--- The host call: 17, then 1 to 8; the answer is written on 1 to 8 too.
+-- The host call: 17, then 1 to 6 and 8, on which the answer is written too.
 unfoldable pub hostVerdict : List ℕ → List ℕ → Verdict
-hostVerdict s t = orElse (fileVerdict s) (orElse (rowsVerdict forward (keywords s)) (traceVerdict (length t)))
+hostVerdict s t = orElse (fileVerdict s) (traceVerdict (length t))
 
 unfoldable pub hostTold : List ℕ → List ℕ → Told
 hostTold s t = answerOr (forwardTold (keywords s) t) (hostVerdict s t)

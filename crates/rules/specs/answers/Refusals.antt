@@ -1,10 +1,11 @@
--- Document 01's table of refusals, in the order tested. A job's verdict is the first refusal of its tests.
+-- Document 01's table of refusals, in the order tested; 7 is not given any more. A job's verdict is the first refusal
+-- of its tests.
 use Prim.Native.Nat.{ℕ, zero, suc, _+_, _-_, _*_, _/_, _%_}
 use mathlib.Core.Bool.{Bool, true, false, _||_, not}
 use mathlib.Core.List.{List, [], _∷_, _++_}
 use lib.ListN.{length, take, drop, getD}
 use lib.Dec.{eqb, ltb}
-use Rattle.rules.specs.sets.Limits.{recordSize, longestWord, mostKeywords, mostRows, longestTrace, rowCells, rowRecord, depths, byteFileSize, answerSize}
+use Rattle.rules.specs.sets.Limits.{recordSize, longestWord, mostKeywords, longestTrace, rowCells, rowRecord, depths, byteFileSize, answerSize}
 use Rattle.rules.specs.strings.Strings.{same, any}
 use Rattle.rules.specs.sets.Sets.{Keyword, keywordOf, isKeyword}
 use Rattle.rules.specs.rows.Rows.{Way, backward, rowsOf}
@@ -46,10 +47,6 @@ fileVerdict s =
     (orElse (refuseIf (ltb mostKeywords (length s / recordSize)) 3 0)
     (recordVerdicts (length s / recordSize) 0 [] s)))
 
--- 7: the rows of the keywords ks, read one way
-unfoldable pub rowsVerdict : Way → List Keyword → Verdict
-rowsVerdict way ks = refuseIf (ltb mostRows (length (rowsOf way ks))) 7 0
-
 -- 8: a trace of n bytes
 unfoldable pub traceVerdict : ℕ → Verdict
 traceVerdict n = refuseIf (ltb longestTrace n) 8 0
@@ -60,9 +57,9 @@ workspaceVerdict way ks room =
     let rows = length (rowsOf way ks) in
     refuseIf (ltb room (rowCells * rows)) 9 rows
 
--- 7 to 9: what a scan of a trace of n bytes begins with, once the set's own tests have passed
+-- 8 and 9: what a scan of a trace of n bytes begins with, once the set's own tests have passed
 abbrev pub entryVerdict : Way → List Keyword → ℕ → ℕ → Verdict
-entryVerdict way ks n room = orElse (rowsVerdict way ks) (orElse (traceVerdict n) (workspaceVerdict way ks room))
+entryVerdict way ks n room = orElse (traceVerdict n) (workspaceVerdict way ks room)
 
 -- a number of a file: 0, or above the largest
 unfoldable pub faulty : ℕ → ℕ → Bool
