@@ -58,6 +58,7 @@
 extern "C" {
 #endif
 
+/* The number 7 is not given any more, and no refusal will have it: no set has over BEZOWIK_ROWS rows. */
 enum bezowik_refusal {
     BEZOWIK_DONE = 0,               /* no refusal */
     BEZOWIK_SET_EMPTY = 1,          /* the set has no bytes */
@@ -66,7 +67,6 @@ enum bezowik_refusal {
     BEZOWIK_LENGTH = 4,             /* a length of 0 or over 15; place: the record */
     BEZOWIK_PADDING = 5,            /* padding that is not zero; place: the record */
     BEZOWIK_REPEATED = 6,           /* the same bytes as an earlier keyword; place: the record */
-    BEZOWIK_TOO_MANY_ROWS = 7,      /* over 961 rows */
     BEZOWIK_TRACE_TOO_LONG = 8,     /* over 1,048,576 trace bytes */
     BEZOWIK_WORKSPACE_SHORT = 9,    /* under six numbers a row; place: the rows needed */
     BEZOWIK_ROW_FILE_SIZE = 10,     /* a row file not exactly 18 bytes a row; place: the rows needed */
@@ -123,18 +123,18 @@ uint16_t bezowik_cost(const uint8_t *set, size_t set_bytes,
                       const uint8_t *trace, size_t trace_bytes,
                       uint8_t *answer, size_t answer_bytes);
 
-/* The forward scan: refusals 1 to 9 and 17. Else the workspace holds the set's forward rows, and hits the first
- * pairs that fit. hit_numbers counts 32-bit numbers, two for each pair: a buffer of 2 * n numbers has room for n
- * hits. */
+/* The forward scan: refusals 1 to 6, 8, 9 and 17. Else the workspace holds the set's forward rows, and hits the
+ * first pairs that fit. hit_numbers counts 32-bit numbers, two for each pair: a buffer of 2 * n numbers has room for
+ * n hits. */
 uint16_t bezowik_forward(const uint8_t *set, size_t set_bytes,
                          const uint8_t *trace, size_t trace_bytes,
                          uint16_t *workspace, size_t workspace_numbers,
                          uint32_t *hits, size_t hit_numbers,
                          uint8_t *answer, size_t answer_bytes);
 
-/* The backward scan under a skip table, which is checked at each call: refusals 1 to 14 and 17. Its hits, count and
- * energy are the forward scan's; its questions are those of its own run. hit_numbers counts 32-bit numbers, two for
- * each pair: a buffer of 2 * n numbers has room for n hits. */
+/* The backward scan under a skip table, which is checked at each call: refusals 1 to 6, 8 to 14 and 17. Its hits,
+ * count and energy are the forward scan's; its questions are those of its own run. hit_numbers counts 32-bit numbers,
+ * two for each pair: a buffer of 2 * n numbers has room for n hits. */
 uint16_t bezowik_backward(const uint8_t *set, size_t set_bytes,
                           const uint8_t *trace, size_t trace_bytes,
                           const uint8_t *row_file, size_t row_bytes,
@@ -144,7 +144,7 @@ uint16_t bezowik_backward(const uint8_t *set, size_t set_bytes,
                           uint8_t *answer, size_t answer_bytes);
 
 /* Making a skip table: the largest safe numbers at the front of two buffers, BEZOWIK_ROW bytes a row and
- * BEZOWIK_BYTES bytes. Refusals 1 to 7, 9 and 15 to 17. The answer has the number of rows in the place of the
+ * BEZOWIK_BYTES bytes. Refusals 1 to 6, 9 and 15 to 17. The answer has the number of rows in the place of the
  * count. */
 uint16_t bezowik_make(const uint8_t *set, size_t set_bytes,
                       uint16_t *workspace, size_t workspace_numbers,
@@ -152,7 +152,7 @@ uint16_t bezowik_make(const uint8_t *set, size_t set_bytes,
                       uint8_t *byte_buffer, size_t byte_bytes,
                       uint8_t *answer, size_t answer_bytes);
 
-/* The check of a skip table: accepted exactly when it is safe for the set. Refusals 1 to 7, 9 to 14 and 17. The
+/* The check of a skip table: accepted exactly when it is safe for the set. Refusals 1 to 6, 9 to 14 and 17. The
  * answer has the number of rows in the place of the count. */
 uint16_t bezowik_check(const uint8_t *set, size_t set_bytes,
                        const uint8_t *row_file, size_t row_bytes,
@@ -241,9 +241,6 @@ static inline const char *bezowik_message(unsigned number)
                "zero the bytes behind the keyword, up to byte " BEZOWIK_TEXT(BEZOWIK_LONGEST);
     case BEZOWIK_REPEATED:
         return "a keyword has the same bytes as an earlier one (place: its record): take one of the two out";
-    case BEZOWIK_TOO_MANY_ROWS:
-        return "the set has over " BEZOWIK_TEXT(BEZOWIK_ROWS) " rows: no set of " BEZOWIK_TEXT(BEZOWIK_KEYWORDS)
-               " keywords of " BEZOWIK_TEXT(BEZOWIK_LONGEST) " bytes has so many";
     case BEZOWIK_TRACE_TOO_LONG:
         return "the trace has over " BEZOWIK_TEXT(BEZOWIK_TRACE) " bytes: cut it; the count and energy of the whole "
                "are the sums over the parts, each later part begun " BEZOWIK_TEXT(BEZOWIK_OVERLAP)

@@ -110,14 +110,15 @@ static void put_record(void)
     CHECK(BEZOWIK_ENERGY_TOO_LARGE < 0);
 }
 
-/* Every refusal has a sentence of its own, and every other number has one. */
+/* Every refusal has a sentence of its own, and all numbers that none has share one: 7, which is not given any more, and
+ * those behind the last. */
 static void messages(void)
 {
     unsigned i, j;
 
     for (i = 0; i <= BEZOWIK_ANSWER_SHORT; i++) {
         CHECK(strlen(bezowik_message(i)) > 10);
-        CHECK(strcmp(bezowik_message(i), bezowik_message(18)) != 0);
+        CHECK((strcmp(bezowik_message(i), bezowik_message(18)) == 0) == (i == 7));
         for (j = 0; j < i; j++)
             CHECK(strcmp(bezowik_message(i), bezowik_message(j)) != 0);
     }

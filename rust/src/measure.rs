@@ -109,7 +109,7 @@ pub fn forward_table(peers: &[Peer]) {
             let host = nanoseconds(|| {
                 black_box(crate::cost(black_box(&set), black_box(&trace)));
             });
-            let keywords = slow::keywords(&set, slow::Way::Forward).expect("the set passes");
+            let keywords = slow::keywords(&set).expect("the set passes");
             let slow = nanoseconds(|| {
                 black_box(slow::hits(black_box(&keywords), black_box(&trace)));
             });

@@ -1,7 +1,7 @@
 //! The slow count: each job as document 01 words it, with neither failures nor skips to be quick by. What the library answers is compared with it.
 
 use crate::sets::Keyword;
-use crate::{Answer, Table, BYTES, RECORD, ROW, ROWS};
+use crate::{Answer, Table, BYTES, RECORD, ROW};
 
 /// The way a keyword is read.
 #[derive(Clone, Copy, Debug, PartialEq, Eq)]
@@ -10,8 +10,8 @@ pub enum Way {
     Backward,
 }
 
-/// The tests 1 to 7: the keywords, or the refusal.
-pub fn keywords(set: &[u8], way: Way) -> Result<Vec<Keyword>, Answer> {
+/// The tests 1 to 6: the keywords, or the refusal.
+pub fn keywords(set: &[u8]) -> Result<Vec<Keyword>, Answer> {
     if set.is_empty() {
         return Err(Answer::refused(1, 0));
     }
@@ -35,9 +35,6 @@ pub fn keywords(set: &[u8], way: Way) -> Result<Vec<Keyword>, Answer> {
             return Err(Answer::refused(6, i));
         }
         keywords.push(Keyword { word, energy: u64::from(record[16]) + 256 * u64::from(record[17]) });
-    }
-    if rows(&keywords, way).len() > ROWS {
-        return Err(Answer::refused(7, 0));
     }
     Ok(keywords)
 }
@@ -137,9 +134,9 @@ pub fn list(hits: &[(u32, u32)], buffer: &mut [u32]) {
     }
 }
 
-/// The tests 1 to 9, and behind them the rows in the workspace.
+/// The tests 1 to 6, 8 and 9, and behind them the rows in the workspace.
 fn enter(set: &[u8], way: Way, trace: usize, workspace: &mut [u16]) -> Result<Vec<Keyword>, Answer> {
-    let keywords = keywords(set, way)?;
+    let keywords = keywords(set)?;
     if trace > 1_048_576 {
         return Err(Answer::refused(8, 0));
     }

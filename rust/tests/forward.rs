@@ -221,7 +221,7 @@ fn lists_of_cut_traces() {
 #[test]
 fn costs_of_cut_traces() {
     cut_everywhere(8300..8600, |random, set, trace, shared| {
-        let keywords = slow::keywords(set, slow::Way::Forward).expect("the set passes its tests");
+        let keywords = slow::keywords(set).expect("the set passes its tests");
         let whole = slow::found(&keywords, &slow::hits(&keywords, trace), 0);
         cost_in_parts(random, set, trace, shared) == (whole.count, whole.energy)
     });

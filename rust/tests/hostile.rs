@@ -180,7 +180,7 @@ fn cycled(bytes: &[u8], n: usize) -> Vec<u8> {
 
 /// What a job needs for a set that passes, and no element more.
 fn right(job: Job, set: &[u8], trace: &[u8]) -> Lent {
-    let keywords = slow::keywords(set, job.way()).expect("the set passes");
+    let keywords = slow::keywords(set).expect("the set passes");
     let rows = slow::rows(&keywords, job.way()).len();
     Lent::exact(set, trace, &slow::table(&keywords), rows, slow::hits(&keywords, trace).len())
 }
@@ -497,7 +497,15 @@ fn steps(n: usize) -> Large {
     questioned(Large { name: "steps", set: largest_set(stepped), trace, hits, forward: 0, backward: 0, period: 256 })
 }
 
-/// The questions of the two inputs above, by their hits.
+/// The set that the proofs give for the most rows, and a trace of one byte: a keyword ends at every end from the fifteenth on. The forward scan asks
+/// one question for each byte, and one more for each after a hit. The backward scan moves on by one.
+fn fifteen_times(n: usize) -> Large {
+    let hits = (15..=n as u32).map(|end| (end, 0)).collect();
+    let set = largest_set(|k| vec![k as u8; 15]);
+    questioned(Large { name: "fifteen times", set, trace: vec![0; n], hits, forward: 0, backward: 0, period: 16 })
+}
+
+/// The questions of the three inputs above, by their hits.
 fn questioned(mut large: Large) -> Large {
     let n = large.trace.len() as u32;
     large.forward = n + large.hits.iter().filter(|&&(end, _)| end < n).count() as u32;
@@ -513,7 +521,7 @@ fn nothing(n: usize) -> Large {
 
 impl Large {
     fn keywords(&self) -> Vec<Keyword> {
-        slow::keywords(&self.set, Way::Forward).expect("the set passes")
+        slow::keywords(&self.set).expect("the set passes")
     }
 
     fn lent(&self, table: &Table) -> Lent {
@@ -565,7 +573,7 @@ fn refused(before: &Lent, number: u16, place: usize) -> (u16, Lent) {
 fn largest_set_with_short_traces() {
     let mut tally = Tally::new();
     for n in [0, 1, 14, 15, 16, 400, 3_001] {
-        for large in [one_after_another(n.max(15)), steps(n.max(15)), nothing(n)] {
+        for large in [one_after_another(n.max(15)), steps(n.max(15)), fifteen_times(n.max(15)), nothing(n)] {
             let keywords = large.keywords();
             for way in [Way::Forward, Way::Backward] {
                 assert_eq!(slow::rows(&keywords, way).len(), 961);
@@ -592,7 +600,7 @@ fn largest_set_with_short_traces() {
 #[test]
 fn longest_trace_forward() {
     let mut tally = Tally::new();
-    for large in [one_after_another(LONGEST), steps(LONGEST), nothing(LONGEST)] {
+    for large in [one_after_another(LONGEST), steps(LONGEST), fifteen_times(LONGEST), nothing(LONGEST)] {
         let keywords = large.keywords();
         let cells = slow::cells(&keywords, Way::Forward);
         let answer = slow::found(&keywords, &large.hits, large.forward);
@@ -611,7 +619,7 @@ fn longest_trace_forward() {
 #[test]
 fn longest_trace_backward() {
     let mut tally = Tally::new();
-    for large in [one_after_another(LONGEST), steps(LONGEST), nothing(LONGEST)] {
+    for large in [one_after_another(LONGEST), steps(LONGEST), fifteen_times(LONGEST), nothing(LONGEST)] {
         let keywords = large.keywords();
         let cells = slow::cells(&keywords, Way::Backward);
         let table = slow::table(&keywords);
@@ -760,7 +768,7 @@ struct Known {
 
 /// Nothing is known of a set that does not pass.
 fn known(set: &[u8]) -> Option<Known> {
-    let keywords = slow::keywords(set, Way::Backward).ok()?;
+    let keywords = slow::keywords(set).ok()?;
     let rows = |way| slow::rows(&keywords, way).len();
     Some(Known { table: slow::table(&keywords), forward: rows(Way::Forward), backward: rows(Way::Backward) })
 }
@@ -877,7 +885,7 @@ fn damaged_call(random: &mut Random, job: Job, own: &[u8], cache: &mut Cache) ->
     }
 }
 
-/// What a job can answer to a call of this kind: 8 needs a longer trace, and 7 cannot happen.
+/// What a job can answer to a call of this kind: 8 needs a longer trace.
 fn results(job: Job) -> Vec<u16> {
     let own: &[u16] = match job {
         Job::Cost => &[],

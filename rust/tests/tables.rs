@@ -124,7 +124,7 @@ fn made_tables() {
         println!("seed {seed}");
         let mut random = Random::new(seed);
         let set = random_set(&mut random);
-        let keywords = slow::keywords(&set, Way::Backward).expect("the set passes");
+        let keywords = slow::keywords(&set).expect("the set passes");
         let rows = slow::rows(&keywords, Way::Backward).len();
         let workspace = 6 * rows + random.below(3) - random.below(2);
         same_make(&set, workspace, ROW * rows + random.below(4) - random.below(2), BYTES + random.below(3) - random.below(2), 19 + random.below(3));

@@ -6,7 +6,7 @@ use crate::records::{self, DEPTHS, EDGE, INNER, NAME};
 use crate::text::{hex, shown, shown_name, suffix};
 use crate::Failure;
 use bezowik::sets::keyword;
-use bezowik::{Answer, Table, BYTES, RECORD, ROW, ROWS};
+use bezowik::{Answer, Table, BYTES, RECORD, ROW};
 use std::path::Path;
 
 /// Refusal 8. The longest keyword has 15 bytes, so that one which a cut divides stands whole in the part behind the
@@ -35,7 +35,7 @@ pub fn accepted(answer: Answer, lent: &Lent) -> Result<Answer, Failure> {
 fn explained<'a>(answer: Answer, lent: &Lent<'a>) -> (&'a Path, String) {
     let place = answer.place as usize;
     match (answer.number, lent.trace, lent.tables) {
-        (1..=7, _, _) => (&lent.set.name, of_set(answer.number, place, &lent.set.bytes)),
+        (1..=6, _, _) => (&lent.set.name, of_set(answer.number, place, &lent.set.bytes)),
         (8, Some(trace), _) => (&trace.name, TOO_LONG.to_string()),
         (10..=12, _, Some(tables)) => (&tables.row_name, of_rows(answer.number, place, &lent.set.bytes, &tables.table)),
         (13..=14, _, Some(tables)) => {
@@ -46,7 +46,7 @@ fn explained<'a>(answer: Answer, lent: &Lent<'a>) -> (&'a Path, String) {
     }
 }
 
-/// The refusals 1 to 7.
+/// The refusals 1 to 6.
 fn of_set(number: u16, place: usize, set: &[u8]) -> String {
     match number {
         1 => "the set has no bytes: it must have at least one record of 18 bytes".to_string(),
@@ -57,14 +57,13 @@ fn of_set(number: u16, place: usize, set: &[u8]) -> String {
             "record {place}, keyword {}: the bytes behind the keyword, up to byte 15, must be zero",
             shown(&word(set, place))
         ),
-        6 => {
+        _ => {
             let earlier = (0..place).find(|&i| word(set, i) == word(set, place)).unwrap_or(0);
             format!(
                 "record {place} has the same bytes as record {earlier}, {}: take one of the two out",
                 shown(&word(set, place))
             )
         }
-        _ => format!("the set has over {ROWS} rows"),
     }
 }
 

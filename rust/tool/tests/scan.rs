@@ -6,7 +6,7 @@ mod folder;
 
 use bezowik::random::Random;
 use bezowik::sets::record;
-use bezowik::slow::{self, Way};
+use bezowik::slow;
 use common::{random_set, random_trace};
 use folder::Folder;
 use std::process::{Command, Stdio};
@@ -223,7 +223,7 @@ fn random_scans() {
         let mut random = Random::new(seed);
         let set = random_set(&mut random);
         let trace = random_trace(&mut random, &set, 400);
-        let keywords = slow::keywords(&set, Way::Forward).expect("the set passes");
+        let keywords = slow::keywords(&set).expect("the set passes");
         let hits = slow::hits(&keywords, &trace);
         let found = slow::found(&keywords, &hits, slow::questions(&keywords, &trace));
         folder.write("set.bin", &set);
