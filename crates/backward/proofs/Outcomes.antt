@@ -21,9 +21,9 @@ use Rattle.rules.proofs.answers.Refused.{numbered-entry}
 use Rattle.rules.proofs.answers.Counts.{counted-refused}
 use Rattle.rules.proofs.scans.Hits.{hits-few}
 use Rattle.rules.proofs.skips.Runs.{run-asks}
+use Rattle.rules.proofs.answers.Entering.{Entry}
 use Rattle.words.specs.Items.{Words, keywordsIn}
 use Rattle.sets.proofs.Opened.{Opened}
-use Rattle.rows.proofs.Entering.{Entry}
 use Rattle.rows.proofs.Laying.{over-laid}
 use Rattle.skips.proofs.Accepts.{check-passed}
 use Rattle.backward.specs.declared.Seen.{Seen}

@@ -13,7 +13,7 @@ use Rattle.rules.specs.answers.Refusals.{pass, refuse, answerVerdict}
 use Rattle.rules.specs.answers.Answers.{Told, answerBytes}
 use Rattle.rules.specs.answers.Promises.{onPass, kept, answerOr, Forward, forwardTold, Backward, Make, Check, hostVerdict, hostTold, Host}
 use Rattle.rules.proofs.answers.Verdicts.{refuseIf-true, refuseIf-false}
-use Rattle.rules.proofs.answers.Ample.{forward-ample}
+use Rattle.rules.proofs.answers.Entering.{forward-ample}
 use Rattle.bezowik.specs.Calls.{Telling, ForwardCall, BackwardCall, MakeCall, CheckCall}
 
 -- a short buffer is refused and left as it was

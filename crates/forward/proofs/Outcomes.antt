@@ -19,10 +19,10 @@ use Rattle.rules.specs.Beside.{Sound}
 use Rattle.rules.proofs.answers.Verdicts.{pass-orElse, refuse-orElse}
 use Rattle.rules.proofs.scans.Hits.{hits-few}
 use Rattle.rules.proofs.scans.Questions.{questions-bound}
+use Rattle.rules.proofs.answers.Entering.{Entry}
 use Rattle.words.specs.Items.{Words, keywordsIn}
 use Rattle.sets.proofs.Opened.{Opened}
 use Rattle.rows.specs.Beginning.{Begun}
-use Rattle.rows.proofs.Entering.{Entry}
 use Rattle.rows.proofs.Begun.{begun-refused}
 use Rattle.rows.proofs.Laying.{over-laid}
 use Rattle.forward.specs.declared.Running.{Running}

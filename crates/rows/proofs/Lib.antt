@@ -9,6 +9,5 @@ pub mod Depth
 pub mod Spelling
 pub mod Building
 pub mod Laying
-pub mod Entering
 pub mod Begun
 pub mod Determined

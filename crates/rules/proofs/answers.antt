@@ -1,6 +1,6 @@
 -- Laws of the verdicts, the answers and the promises.
 pub mod Verdicts
-pub mod Ample
+pub mod Entering
 pub mod Refused
 pub mod Answers
 pub mod Counts

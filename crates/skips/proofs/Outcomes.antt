@@ -1,6 +1,6 @@
 -- What making and the check answer, outcome by outcome: the first test that shows a fault is the verdict.
 use Prim.Native.Nat.{ℕ, _*_, _≤_, _<_}
-use mathlib.Core.Path.{_≡_, refl, sym, _∙_, ap}
+use mathlib.Core.Path.{_≡_, sym, _∙_, ap}
 use mathlib.Core.List.{List}
 use lib.ListN.{length}
 use borrow.Author.Tests.{lt-ltb, le-ltb}
@@ -12,20 +12,16 @@ use Rattle.rules.specs.sets.Sets.{Keyword, keywords}
 use Rattle.rules.specs.rows.Rows.{backward}
 use Rattle.rules.specs.scans.Hits.{over}
 use Rattle.rules.specs.skips.Skips.{rowFile, byteFile}
-use Rattle.rules.specs.answers.Refusals.{refuse, refuseIf, orElse, fileVerdict, traceVerdict, workspaceVerdict, entryVerdict, tableVerdict, bufferVerdict}
+use Rattle.rules.specs.answers.Refusals.{refuse, refuseIf, orElse, fileVerdict, workspaceVerdict, entryVerdict, tableVerdict, bufferVerdict}
 use Rattle.rules.specs.answers.Answers.{Told, numberOf, placeOf, toldCounted}
 use Rattle.rules.specs.answers.Promises.{onPass, kept, answerOr, tableEntry, rowsTold, Make, MakeOf, makeVerdict, Check, CheckOf}
 use Rattle.rules.proofs.answers.Verdicts.{pass-orElse, refuse-orElse}
+use Rattle.rules.proofs.answers.Entering.{entry-untraced}
 use Rattle.rules.proofs.answers.Counts.{answer-refused}
 use Rattle.words.specs.Items.{keywordsIn}
 use Rattle.sets.proofs.Opened.{Opened}
 use Rattle.rows.specs.Beginning.{Begun}
 use Rattle.rows.proofs.Begun.{begun-refused, begun-laid}
-
--- the verdict of a job that has entered with no trace: test 8 passes
-room-entry : (ks : List Keyword) (room : ℕ) → entryVerdict backward ks 0 room ≡ workspaceVerdict backward ks room
-unfolding traceVerdict refuseIf orElse
-room-entry ks room = refl
 
 -- The check: refused on entry, or as the table's tests say.
 module _ {ks : List Keyword} {n : ℕ} {rowf bytef ws ws′ : List ℕ} where
@@ -105,7 +101,7 @@ module _ {ks : List Keyword} {ws ws′ : List ℕ} (rowb byteb : List ℕ) where
 entry-read : {s l : List ℕ} (room : ℕ) → Opened s l → tableEntry s room ≡ entryVerdict backward (keywords s) 0 room
 unfolding tableEntry
 entry-read {s} room so =
-    pass-orElse (workspaceVerdict backward (keywords s) room) (so .passed) ∙ sym (room-entry (keywords s) room)
+    pass-orElse (workspaceVerdict backward (keywords s) room) (so .passed) ∙ sym (entry-untraced backward (keywords s) room)
 
 entry-unread : (s : List ℕ) (room : ℕ) (fault : Refusal)
     → fileVerdict s ≡ refuse (numberOf fault) (placeOf fault)

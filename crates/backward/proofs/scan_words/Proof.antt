@@ -12,8 +12,8 @@ use Rattle.rules.specs.answers.Refusals.{pass, entryVerdict, tableVerdict}
 use Rattle.rules.specs.answers.Answers.{toldCounted}
 use Rattle.rules.specs.answers.Promises.{CheckOf}
 use Rattle.rules.proofs.sets.Bytes.{mem-below}
+use Rattle.rules.proofs.answers.Entering.{Entry, entry-passed}
 use Rattle.words.specs.Items.{keywordsIn}
-use Rattle.rows.proofs.Entering.{Entry, entry-passed}
 use Rattle.backward.specs.Windowed.{Safe}
 use Rattle.backward.proofs.Outcomes.{backward-unsafe, backward-safe, run-safe, count-few, questions-few, backward-found}
 use Rattle.backward.proofs.scan_words.Statement.{statement}

@@ -7,10 +7,10 @@ use denote.Ref.{now}
 use borrow.Author.Needs.{needs}
 use Rattle.rules.specs.declared.Counted.{Counted}
 use Rattle.rules.specs.rows.Rows.{forward}
+use Rattle.rules.proofs.answers.Entering.{Entry, entry-passed}
 use Rattle.words.specs.Items.{keywordsIn}
 use Rattle.words.specs.Read.{wayOf}
 use Rattle.rows.specs.Beginning.{Begun}
-use Rattle.rows.proofs.Entering.{Entry, entry-passed}
 use Rattle.rows.proofs.Begun.{begun-laid}
 use Rattle.forward.specs.Progress.{Scanning, Going}
 use Rattle.forward.proofs.Outcomes.{forward-entry, start-going, count-few, questions-few, forward-found}

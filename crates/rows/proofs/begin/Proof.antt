@@ -6,10 +6,10 @@ use denote.Ref.{now}
 use borrow.Author.Needs.{needs}
 use Rattle.rules.specs.answers.Refusals.{pass, entryVerdict}
 use Rattle.rules.proofs.rows.Most.{rows-few}
+use Rattle.rules.proofs.answers.Entering.{entry-passed}
 use Rattle.words.specs.Items.{keywordsIn}
 use Rattle.words.specs.Read.{wayOf}
 use Rattle.rows.specs.Beginning.{verdictOf}
-use Rattle.rows.proofs.Entering.{entry-passed}
 use Rattle.rows.proofs.Begun.{begin-refused, begin-laid}
 use Rattle.rows.proofs.begin.Statement.{statement}
 use Rattle.rows.proofs.begin.Tie as tie

@@ -5,20 +5,20 @@ use native.Mathlib.Omega.{arith}
 use mathlib.Core.Path.{_≡_, refl}
 use mathlib.Core.List.{List}
 use lib.ListN.{length, getD}
-use borrow.Author.Tests.{ltb-false}
 use Rattle.rules.specs.sets.Limits.{longestWord, mostEnergy, longestTrace, opcodes, byteFileSize}
 use Rattle.rules.specs.sets.Sets.{Keyword, keywords}
-use Rattle.rules.specs.rows.Rows.{Way, backward, rowsOf}
+use Rattle.rules.specs.rows.Rows.{backward, rowsOf}
 use Rattle.rules.specs.scans.Hits.{hits, energy}
-use Rattle.rules.specs.answers.Refusals.{Verdict, pass, refuse, fileVerdict, traceVerdict, entryVerdict}
+use Rattle.rules.specs.answers.Refusals.{Verdict, pass, refuse, fileVerdict}
 use Rattle.rules.specs.answers.Answers.{Told, answerBytes}
 use Rattle.rules.specs.answers.Promises.{onPass, answerOr, forwardTold, Forward, forwardVerdict, backwardTold, Backward, backwardEntry, tableEntry, rowsTold, makeVerdict, Make, Check, hostVerdict, hostTold}
 use Rattle.rules.specs.Beside.{Sound}
-use Rattle.rules.proofs.answers.Verdicts.{orElse-pass, refuseIf-pass}
+use Rattle.rules.proofs.answers.Verdicts.{orElse-pass}
 use Rattle.rules.proofs.sets.Bytes.{bytes-sound}
 use Rattle.rules.proofs.scans.Questions.{questions-bound}
 use Rattle.rules.proofs.scans.Hits.{hits-occur, hits-few, energy-most}
 use Rattle.rules.proofs.skips.Runs.{run-asks}
+use Rattle.rules.proofs.answers.Entering.{trace-passed, entry-passed}
 use Rattle.rules.proofs.answers.Refused.{Line, Tabled, file-rows, tabled-forward, tabled-backward, tabled-make, tabled-check, tabled-host}
 use Rattle.rules.proofs.answers.Answers.{Fits, answerBytes-injective}
 
@@ -38,13 +38,6 @@ answer-fits {v = refuse n p} tabled own e =
     })
 
 -- what a scan answers
-trace-near : (n : ℕ) → traceVerdict n ≡ pass → n ≤ longestTrace
-unfolding traceVerdict
-trace-near n passed = ltb-false longestTrace n (refuseIf-pass 8 0 passed)
-
-entry-near : (way : Way) (ks : List Keyword) (n room : ℕ) → entryVerdict way ks n room ≡ pass → n ≤ longestTrace
-entry-near way ks n room passed = trace-near n (orElse-pass _ _ passed .0)
-
 scan-fits : {ks : List Keyword} → Sound ks → (t : List ℕ) (asked : ℕ)
     → length t ≤ longestTrace
     → asked ≤ suc longestWord * length t
@@ -103,7 +96,7 @@ module _ (s : List ℕ) where
         answer-fits (tabled-forward s t (length ws))
         (λ passed.
         let both = orElse-pass _ _ passed in
-        forward-told-fits (bytes-sound s bytes (both .0)) t (entry-near _ _ _ _ (both .1)))
+        forward-told-fits (bytes-sound s bytes (both .0)) t (entry-passed _ _ _ _ (both .1) .near))
         (promise .answered)
 
     pub backward-fits : {t rowf bytef ws hs : List ℕ} {a : Told} {ws′ hs′ : List ℕ}
@@ -115,7 +108,7 @@ module _ (s : List ℕ) where
         (λ passed.
         let both = orElse-pass _ _ (orElse-pass _ _ passed .0) in
         let sound : Sound (keywords s) = bytes-sound s bytes (both .0) in
-        scan-fits sound t _ (entry-near _ _ _ _ (both .1)) (run-asks sound rowf bytef t))
+        scan-fits sound t _ (entry-passed _ _ _ _ (both .1) .near) (run-asks sound rowf bytef t))
         (promise .answered)
 
     pub host-fits : (t : List ℕ) → Fits (hostTold s t)
@@ -124,7 +117,7 @@ module _ (s : List ℕ) where
         answer-fits (tabled-host s t)
         (λ passed.
         let both = orElse-pass _ _ passed in
-        forward-told-fits (bytes-sound s bytes (both .0)) t (trace-near (length t) (both .1)))
+        forward-told-fits (bytes-sound s bytes (both .0)) t (trace-passed (length t) (both .1)))
         refl
 
 -- So the twenty bytes of the host call say which numbers they were.

@@ -2,8 +2,8 @@
 use native.Mathlib.Omega.{arith}
 use mathlib.Core.Path.{sym}
 use borrow.Author.Needs.{needs}
+use Rattle.rules.proofs.answers.Entering.{entry-trace, entry-uncounted, entry-room, entry-pass}
 use Rattle.rows.specs.Beginning.{verdictOf}
-use Rattle.rows.proofs.Entering.{entry-trace, entry-uncounted, entry-room, entry-pass}
 use Rattle.rows.proofs.entry.enter.Statement.{statement}
 use Rattle.rows.proofs.entry.enter.Tie as tie
 
@@ -15,7 +15,7 @@ returns-2 : tie.Need-returns-2
 unfolding verdictOf
 returns-2 c =
     let d = c .before in
-    sym (entry-uncounted _ _ _ _ (omega (arith, d .if1 .left)) (d .before .before .pre .1) (omega (arith, c .if2 .taken)))
+    sym (entry-uncounted _ _ _ _ (d .before .before .pre .1) (omega (arith, d .if1 .left)) (omega (arith, c .if2 .taken)))
 
 count-rows-requires : tie.Need-count-rows-requires
 count-rows-requires c κs = search needs
