@@ -17,7 +17,7 @@ use Rattle.rules.proofs.scans.Buffers.{over-sets, over-length}
 use Rattle.rules.proofs.skips.Tables.{suffixRows-length, named-length}
 use Rattle.skips.specs.declared.suffixes.Place.{Place}
 use Rattle.skips.specs.Suffixes.{Suffix, At, suffixAt, putAt}
-use Rattle.skips.proofs.Matches.{suffix-length, suffix-short}
+use Rattle.skips.proofs.Keywords.{suffix-length, suffix-short}
 
 -- a record that is written whole
 pub pasted-all : {old : List ℕ} {place : ℕ} {new buffer : List ℕ} {k : ℕ} → Pasted old place new buffer k

@@ -1,6 +1,6 @@
 -- Laws of suffixes, far numbers and verdicts that the proofs of the functions lean on, and the two theorems of skip
 -- tables.
-pub mod Matches
+pub mod Keywords
 pub mod Places
 pub mod Buffers
 pub mod Spelling

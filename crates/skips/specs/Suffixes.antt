@@ -29,23 +29,14 @@ pub record Suffix (ks : List Keyword) (i z : ℕ) : Type 0 where
   pub listed : Listed ks i
   pub short : z ≤ length (nth ks i .word)
 
--- z bytes of the keyword at place i, from an offset on; they lie within it
-unfoldable pub partAt : List Keyword → ℕ → ℕ → ℕ → List ℕ
-partAt ks i from z = take z (drop from (nth ks i .word))
+-- whether a keyword w stops the search for a number of the suffix v at the distance n: inner's test or edge's; whether
+-- some keyword does; and the number, the least distance at which one does
+unfoldable pub stopsAt : Number → List ℕ → ℕ → List ℕ → Bool
+stopsAt Inner = holdsBefore
+stopsAt Edge = endsWithin
 
-pub record Part (ks : List Keyword) (i from z : ℕ) : Type 0 where
-  pub listed : Listed ks i
-  pub within : from + z ≤ length (nth ks i .word)
-
--- document 01's test of a number: inner's, that a keyword has the suffix with exactly n bytes after it, or edge's,
--- that some string made of the suffix and n further bytes ends with the keyword; over all keywords; and the number,
--- the least that passes
-unfoldable pub testOf : Number → List ℕ → ℕ → List ℕ → Bool
-testOf Inner = holdsBefore
-testOf Edge = endsWithin
-
-unfoldable pub somePasses : Number → List Keyword → List ℕ → ℕ → Bool
-somePasses which ks v n = any (λ (k : Keyword). testOf which v n (k .word)) ks
+unfoldable pub someStops : Number → List Keyword → List ℕ → ℕ → Bool
+someStops which ks v n = any (λ (k : Keyword). stopsAt which v n (k .word)) ks
 
 unfoldable pub largestOf : Number → List Keyword → List ℕ → ℕ
 largestOf Inner = inner

@@ -1,98 +1,65 @@
-// inner and edge of a suffix, as document 01 words them: against every keyword at every distance. A suffix is z units
-// of the keyword at place i, from an offset on.
-use words::alike;
+// inner and edge of a suffix, as document 01 words them: at each distance n from 1 up, each keyword is laid over the
+// suffix so that n of its bytes stand behind it. docs/SKIPS.md draws it.
 use words::count_of;
-use words::length_of;
+use words::ends_with;
+use words::units_of;
 ghost use mathlib.Core.Path.{_≡_};
 ghost use Prim.Native.Nat.{_<_};
 ghost use Rattle.rules.specs.sets.Limits.{depths};
 ghost use Rattle.rules.specs.sets.Sets.{shortest};
 ghost use Rattle.rules.specs.skips.Skips.{holdsBefore, endsWithin};
-ghost use Rattle.rules.specs.Beside.{nth};
+ghost use Rattle.rules.specs.Beside.{Sound};
 ghost use Rattle.words.specs.Items.{Words, keywordsIn};
-ghost use Rattle.skips.specs.Suffixes.{Part, Listed, partAt, testOf, somePasses, largestOf};
+ghost use Rattle.skips.specs.Suffixes.{stopsAt, someStops, largestOf};
 
-// The two numbers of a suffix, each capped at the shortest keyword's length. inner: the least n from 1 up such that
-// some keyword has it with exactly n bytes after it. edge: the least n from 1 up such that some string made of it and
-// n further bytes ends with a keyword.
+// The two numbers of a suffix.
 pub(crate) enum Number {
     Inner,
     Edge,
 }
 
-// Whether the keyword at place k has the suffix with exactly n bytes after it.
-fn holds_before(words: &[u16], i: usize, from: usize, z: usize, k: usize, n: usize) -> bool
-    requires { ⌜
-        Words (now words)
-        × Part (keywordsIn (now words)) i from z
-        × Listed (keywordsIn (now words)) k
-        × (n < depths)
-        ⌝ }
-    ensures { λ r. ⌜
-        r ≡ holdsBefore (partAt (keywordsIn (now (words .entry))) i from z) n
-        (nth (keywordsIn (now (words .entry))) k .word)
-        ⌝ }
+// inner's test: the keyword has the suffix with exactly n bytes after it. Without those n bytes it ends with the suffix.
+fn holds_before(keyword: &[u16], suffix: &[u16], n: usize) -> bool
+    ensures { λ r. ⌜ r ≡ holdsBefore (now (suffix .entry)) n (now (keyword .entry)) ⌝ }
 {
-    let b = length_of(words, k);
-    if b < n + z {
+    if keyword.len() < n {
         return false;
     }
-    alike(words, i, from, k, b - n - z, z)
+    let front = keyword.len() - n;
+    ends_with(&keyword[..front], suffix)
 }
 
-// Whether some string made of the suffix and n further bytes ends with the keyword at place k.
-fn ends_within(words: &[u16], i: usize, from: usize, z: usize, k: usize, n: usize) -> bool
-    requires { ⌜
-        Words (now words)
-        × Part (keywordsIn (now words)) i from z
-        × Listed (keywordsIn (now words)) k
-        ⌝ }
-    ensures { λ r. ⌜
-        r ≡ endsWithin (partAt (keywordsIn (now (words .entry))) i from z) n
-        (nth (keywordsIn (now (words .entry))) k .word)
-        ⌝ }
+// edge's test: some string made of the suffix and n further bytes ends with the keyword. The n bytes may be all of it;
+// if not, the suffix ends with what stands before them.
+fn ends_within(keyword: &[u16], suffix: &[u16], n: usize) -> bool
+    ensures { λ r. ⌜ r ≡ endsWithin (now (suffix .entry)) n (now (keyword .entry)) ⌝ }
 {
-    let b = length_of(words, k);
-    if b <= n {
+    if keyword.len() <= n {
         return true;
     }
-    let front = b - n;
-    if z < front {
-        return false;
-    }
-    alike(words, i, from + z - front, k, 0, front)
+    let front = keyword.len() - n;
+    ends_with(suffix, &keyword[..front])
 }
 
-// Whether the keyword at place k stops the search for a number of the suffix at n.
-fn passes(words: &[u16], i: usize, from: usize, z: usize, k: usize, n: usize, which: Number) -> bool
-    requires { ⌜
-        Words (now words)
-        × Part (keywordsIn (now words)) i from z
-        × Listed (keywordsIn (now words)) k
-        × (n < depths)
-        ⌝ }
-    ensures { λ r. ⌜
-        r ≡ testOf which (partAt (keywordsIn (now (words .entry))) i from z) n
-        (nth (keywordsIn (now (words .entry))) k .word)
-        ⌝ }
+// Whether a keyword stops the search for a number at the distance n.
+fn stops(keyword: &[u16], suffix: &[u16], n: usize, which: Number) -> bool
+    ensures { λ r. ⌜ r ≡ stopsAt which (now (suffix .entry)) n (now (keyword .entry)) ⌝ }
 {
     match which {
-        Number::Inner => holds_before(words, i, from, z, k, n),
-        Number::Edge => ends_within(words, i, from, z, k, n),
+        Number::Inner => holds_before(keyword, suffix, n),
+        Number::Edge => ends_within(keyword, suffix, n),
     }
 }
 
 // Whether some keyword does.
-fn some_passes(words: &[u16], i: usize, from: usize, z: usize, n: usize, which: Number) -> bool
-    requires { ⌜ Words (now words) × Part (keywordsIn (now words)) i from z × (n < depths) ⌝ }
-    ensures { λ r. ⌜
-        r ≡ somePasses which (keywordsIn (now (words .entry))) (partAt (keywordsIn (now (words .entry))) i from z) n
-        ⌝ }
+fn some_stops(words: &[u16], suffix: &[u16], n: usize, which: Number) -> bool
+    requires { ⌜ Words (now words) ⌝ }
+    ensures { λ r. ⌜ r ≡ someStops which (keywordsIn (now (words .entry))) (now (suffix .entry)) n ⌝ }
 {
     let count = count_of(words);
     let mut k = 0;
     while k < count {
-        if passes(words, i, from, z, k, n, which) {
+        if stops(units_of(words, k), suffix, n, which) {
             return true;
         }
         k += 1;
@@ -100,28 +67,14 @@ fn some_passes(words: &[u16], i: usize, from: usize, z: usize, n: usize, which: 
     false
 }
 
-// A number of the suffix: the least n from 1 up at which some keyword stops the search, capped at m.
-pub(crate) fn largest(
-    words: &[u16],
-    i: usize,
-    from: usize,
-    z: usize,
-    m: usize,
-    which: Number,
-) -> usize
-    requires { ⌜
-        Words (now words)
-        × Part (keywordsIn (now words)) i from z
-        × (m ≡ shortest (keywordsIn (now words)))
-        ⌝ }
-    ensures { λ r. ⌜
-        (r ≡ largestOf which (keywordsIn (now (words .entry))) (partAt (keywordsIn (now (words .entry))) i from z))
-        × (r < depths)
-        ⌝ }
+// The number: the least n from 1 up at which some keyword stops the search, capped at m, the shortest keyword's length.
+pub(crate) fn largest(words: &[u16], suffix: &[u16], m: usize, which: Number) -> usize
+    requires { ⌜ Words (now words) × Sound (keywordsIn (now words)) × (m ≡ shortest (keywordsIn (now words))) ⌝ }
+    ensures { λ r. ⌜ (r ≡ largestOf which (keywordsIn (now (words .entry))) (now (suffix .entry))) × (r < depths) ⌝ }
 {
     let mut n = 1;
     while n < m {
-        if some_passes(words, i, from, z, n, which) {
+        if some_stops(words, suffix, n, which) {
             return n;
         }
         n += 1;

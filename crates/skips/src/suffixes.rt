@@ -5,7 +5,7 @@ use rules::ROW;
 use rules::Way;
 use words::length_of;
 use words::most_shared;
-use words::unit;
+use words::units_of;
 ghost use mathlib.Core.Path.{_≡_};
 ghost use mathlib.Core.List.{List};
 ghost use Prim.Native.Nat.{_+_, _*_, _<_, _≤_};
@@ -57,6 +57,16 @@ pub(crate) fn next(words: &[u16], at: Place, row: usize) -> Place
     }
 }
 
+// A row's suffix, as it stands in the list.
+fn suffix_of(words: &[u16], at: Place) -> &[u16]
+    requires { ⌜ Words (now words) × Suffix (keywordsIn (now words)) (at .keyword) (at .depth) ⌝ }
+    ensures { λ r. ⌜ now r ≡ suffixAt (keywordsIn (now (words .entry))) (at .keyword) (at .depth) ⌝ }
+{
+    let word = units_of(words, at.keyword);
+    let from = word.len() - at.depth;
+    &word[from..]
+}
+
 // The record of a row with the largest numbers: the suffix in its sixteen places, inner, edge.
 pub(crate) fn record_of(words: &[u16], at: Place, m: usize) -> [u8; ROW]
     requires { ⌜
@@ -69,19 +79,16 @@ pub(crate) fn record_of(words: &[u16], at: Place, m: usize) -> [u8; ROW]
         (suffixAt (keywordsIn (now (words .entry))) (at .keyword) (at .depth))
         ⌝ }
 {
-    let i = at.keyword;
-    let z = at.depth;
-    let n = length_of(words, i);
-    let from = n - z;
+    let suffix = suffix_of(words, at);
     let mut numbers = [0u8; ROW];
-    numbers[0] = z as u8;
+    numbers[0] = suffix.len() as u8;
     let mut k = 0;
-    while k < z {
-        numbers[1 + k] = unit(words, i, n, from + k, Way::Forward) as u8;
+    while k < suffix.len() {
+        numbers[1 + k] = suffix[k] as u8;
         k += 1;
     }
-    numbers[16] = largest(words, i, from, z, m, Number::Inner) as u8;
-    numbers[17] = largest(words, i, from, z, m, Number::Edge) as u8;
+    numbers[16] = largest(words, suffix, m, Number::Inner) as u8;
+    numbers[17] = largest(words, suffix, m, Number::Edge) as u8;
     numbers
 }
 

@@ -1,4 +1,4 @@
--- Two strings compared one unit at a time: what they share, or whether they are the same, is decided behind the units
+-- Two strings compared one unit at a time: what they share, or whether one ends the other, is decided behind the units
 -- passed.
 use Prim.Native.Nat.{ℕ, suc, _+_, _-_, _≤_, _<_}
 use native.Mathlib.Omega.{arith}
@@ -6,12 +6,13 @@ use native.Mathlib.Numerals.{add-one}
 use mathlib.Core.Path.{_≡_, sym, _∙_}
 use mathlib.Core.Bool.{true, false, cond}
 use mathlib.Core.List.{List, _∷_}
-use lib.ListN.{length, getD, take, drop, drop-of-length-le}
+use lib.ListN.{length, getD, drop, drop-of-length-le}
 use lib.Seq.{drop-cons}
 use lib.Dec.{eqb}
 use borrow.Author.Tests.{eq-eqb, ne-eqb}
-use Rattle.rules.specs.strings.Strings.{same}
+use Rattle.rules.specs.strings.Strings.{same, ends}
 use Rattle.rules.specs.Beside.{common}
+use Rattle.rules.proofs.strings.Parts.{ends-part}
 use Rattle.rules.proofs.rows.Count.{common-nil}
 
 -- the strings a and b agree on their first k units
@@ -53,66 +54,46 @@ module _ {a b : List ℕ} {k : ℕ} (so : Agreed a b k) where
         rw (next-unit, eq-eqb _ _ alike) in
         record { low = omega arith; high = omega arith; known = rw (add-one k) (omega (arith, so .known)) }
 
--- n numbers of a list from p on and from q on are the same where they are the same behind the k passed
-pub record Matched (s : List ℕ) (p q n k : ℕ) : Type 0 where
-  pub left : p + n ≤ length s
-  pub right : q + n ≤ length s
-  pub low : k ≤ n
-  pub known : same (take n (drop p s)) (take n (drop q s)) ≡ same (take (n - k) (drop (p + k) s)) (take (n - k) (drop (q + k) s))
+-- e ends s, of which so many units stand before its last part, exactly where both are the same behind the k passed
+pub record Ending (s e : List ℕ) (before k : ℕ) : Type 0 where
+  pub place : before + length e ≡ length s
+  pub low : k ≤ length e
+  pub known : ends e s ≡ same (drop k e) (drop (before + k) s)
 
-pub matched-none : {s : List ℕ} {p q n : ℕ} → p + n ≤ length s → q + n ≤ length s → Matched s p q n 0
-matched-none {s} {p} {q} {n} a b =
-    let here : p + 0 ≡ p = omega arith in
-    let there : q + 0 ≡ q = omega arith in
-    let all : n - 0 ≡ n = omega arith in
-    record { left = a; right = b; low = omega arith; known = rw (here, there, all) }
+pub ending-none : {s e : List ℕ} {before : ℕ} → before + length e ≡ length s → Ending s e before 0
+ending-none {s} {e} {before} h =
+    let from : length s - length e ≡ before + 0 = omega arith in
+    record { place = h; low = omega arith; known = ends-part e s (omega arith) ∙ rw from }
 
-module _ {s : List ℕ} {p q n k : ℕ} (so : Matched s p q n k) where
-  pub matched-all : n ≤ k → true ≡ same (take n (drop p s)) (take n (drop q s))
+module _ {s e : List ℕ} {before k : ℕ} (so : Ending s e before k) where
+  pub ending-all : length e ≤ k → true ≡ ends e s
   unfolding same
-  matched-all h = let none : n - k ≡ 0 = omega (arith, so .low) in sym (so .known ∙ rw none)
+  ending-all h =
+      sym (so .known ∙ rw (drop-of-length-le e {i = k} h, drop-of-length-le s {i = before + k} (omega (arith, so .place))))
 
-  module _ (h : k < n) where
-    more : n - k ≡ suc (n - suc k)
-    more = omega arith
+  module _ (h : k < length e) where
+    first : ends e s
+        ≡ same (getD e k 0 ∷ drop (suc k) e) (getD s (before + k) 0 ∷ drop (suc (before + k)) s)
+    first = so .known ∙ rw (drop-cons e k 0 h, drop-cons s (before + k) 0 (omega (arith, so .place)))
 
-    first : same (take n (drop p s)) (take n (drop q s))
-        ≡ same (getD s (p + k) 0 ∷ take (n - suc k) (drop (suc (p + k)) s)) (getD s (q + k) 0 ∷ take (n - suc k) (drop (suc (q + k)) s))
-    first =
-        so .known
-        ∙ rw (more, drop-cons s (p + k) 0 (omega (arith, so .left)), drop-cons s (q + k) 0 (omega (arith, so .right)))
-
-    pub matched-stop : (getD s (p + k) 0 ≡ getD s (q + k) 0 → ⊥) → false ≡ same (take n (drop p s)) (take n (drop q s))
+    pub ending-stop : (getD s (before + k) 0 ≡ getD e k 0 → ⊥) → false ≡ ends e s
     unfolding same
-    matched-stop f = sym (first ∙ rw (ne-eqb _ _ f))
+    ending-stop f = sym (first ∙ rw (ne-eqb _ _ (λ g. f (sym g))))
 
-    pub matched-more : getD s (p + k) 0 ≡ getD s (q + k) 0 → Matched s p q n (k + 1)
+    pub ending-more : getD s (before + k) 0 ≡ getD e k 0 → Ending s e before (k + 1)
     unfolding same
-    matched-more e =
-        let here : p + (k + 1) ≡ suc (p + k) = omega arith in
-        let there : q + (k + 1) ≡ suc (q + k) = omega arith in
-        let rest : n - (k + 1) ≡ n - suc k = omega arith in
+    ending-more g =
+        let there : before + suc k ≡ suc (before + k) = omega arith in
         record {
-          left = so .left;
-          right = so .right;
+          place = so .place;
           low = omega arith;
-          known = first ∙ rw (here, there, rest, eq-eqb _ _ e);
+          known = first ∙ rw (add-one k, there, eq-eqb _ _ (sym g));
         }
 
--- none are the same; where there are some, the first alone may decide
-pub none-same : (s : List ℕ) (p q : ℕ) {n : ℕ} → n ≡ 0 → true ≡ same (take n (drop p s)) (take n (drop q s))
-unfolding same
-none-same s p q none = rw none
+-- the first units alone may decide
+module _ (s e : List ℕ) (before : ℕ) (h : before + length e ≡ length s) (some : 0 < length e) where
+  pub first-stop : (getD s before 0 ≡ getD e 0 0 → ⊥) → false ≡ ends e s
+  first-stop f = let here : before + 0 ≡ before = omega arith in ending-stop (ending-none h) some (rw here f)
 
-module _ (s : List ℕ) (p q n : ℕ) (a : p + n ≤ length s) (b : q + n ≤ length s) (some : 0 < n) where
-  pub first-stop : (getD s p 0 ≡ getD s q 0 → ⊥) → false ≡ same (take n (drop p s)) (take n (drop q s))
-  first-stop f =
-      let here : p + 0 ≡ p = omega arith in
-      let there : q + 0 ≡ q = omega arith in
-      matched-stop (matched-none a b) some (rw (here, there) f)
-
-  pub first-more : getD s p 0 ≡ getD s q 0 → Matched s p q n 1
-  first-more e =
-      let here : p + 0 ≡ p = omega arith in
-      let there : q + 0 ≡ q = omega arith in
-      matched-more (matched-none a b) some (rw (here, there) e)
+  pub first-more : getD s before 0 ≡ getD e 0 0 → Ending s e before 1
+  first-more g = let here : before + 0 ≡ before = omega arith in ending-more (ending-none h) some (rw here g)

@@ -3,21 +3,18 @@
 use Prim.Native.Nat.{ℕ, zero, suc, _+_, _-_, _*_, _/_, _≤_, _<_}
 use native.Mathlib.Omega.{arith}
 use mathlib.Core.Path.{_≡_, refl, _∙_, ap}
-use mathlib.Core.Bool.{Bool}
 use mathlib.Core.List.{List, [], _∷_}
 use lib.ListN.{length, take, drop, getD, length-append, length-take, length-drop, length-reverse, List·getD-append}
 use lib.Seq.{getD-take, getD-drop, getD-at}
 use lib.Dec.{ltb}
 use borrow.Author.Tests.{ltb-true, ltb-false}
 use Rattle.rules.specs.sets.Limits.{longestWord}
-use Rattle.rules.specs.strings.Strings.{same}
 use Rattle.rules.specs.sets.Sets.{Keyword}
 use Rattle.rules.specs.Beside.{Sound, noKeyword, nth}
 use Rattle.rules.specs.rows.Rows as R
 use Rattle.rules.proofs.strings.Strings.{either}
 use Rattle.rules.proofs.strings.Lists.{getD-reverse}
 use Rattle.rules.proofs.strings.Orders.{getD-mem}
-use Rattle.rules.proofs.strings.Parts.{part-part}
 use Rattle.words.specs.Read.{readAt}
 use Rattle.words.specs.Items.{itemSize, itemAt, items, keywordsIn, Words, Has}
 
@@ -86,13 +83,6 @@ module _ {l : List ℕ} {i : ℕ} (has : Has l i) where
   pub word-some : Sound (keywordsIn l) → 0 < length (nth (keywordsIn l) i .word)
   word-some sound = omega (arith, sound .filled _ (getD-mem (keywordsIn l) noKeyword i (has .within)))
 
-  pub word-part : (m z : ℕ) → m + z ≤ length (nth (keywordsIn l) i .word)
-      → take z (drop m (nth (keywordsIn l) i .word)) ≡ take z (drop (itemSize * i + 2 + m) l)
-  word-part m z h =
-      let n : ℕ = getD l (itemSize * i + 1) 0 in
-      ap (λ (w : List ℕ). take z (drop m w)) word-is
-      ∙ part-part l (itemSize * i + 2) n m z (omega (arith, word-length))
-
   word-at : (k : ℕ) → k < length (nth (keywordsIn l) i .word) → getD (nth (keywordsIn l) i .word) k 0 ≡ getD l (itemSize * i + 2 + k) 0
   word-at k h =
       let n : ℕ = getD l (itemSize * i + 1) 0 in
@@ -119,12 +109,3 @@ module _ {l : List ℕ} {i : ℕ} (has : Has l i) where
         getD-reverse w k 0 (omega arith)
         ∙ word-at (length w - suc k) (omega arith)
         ∙ ap (λ (m : ℕ). getD l m 0) place
-
--- parts of two keywords are the same where they are the same in the list
-pub alike-parts : {l : List ℕ} {i j : ℕ} (one : Has l i) (two : Has l j) (p q n : ℕ)
-    → p + n ≤ length (nth (keywordsIn l) i .word)
-    → q + n ≤ length (nth (keywordsIn l) j .word)
-    → {b : Bool}
-    → b ≡ same (take n (drop (itemSize * i + 2 + p) l)) (take n (drop (itemSize * j + 2 + q) l))
-    → b ≡ same (take n (drop p (nth (keywordsIn l) i .word))) (take n (drop q (nth (keywordsIn l) j .word)))
-alike-parts one two p q n left right e = rw (word-part one p n left, word-part two q n right) e

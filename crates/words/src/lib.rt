@@ -5,10 +5,10 @@ use rules::Way;
 ghost use mathlib.Core.Path.{_≡_};
 ghost use mathlib.Core.List.{List·Memᴰ};
 ghost use Prim.Native.Nat.{_+_, _*_, _<_, _≤_};
-ghost use lib.ListN.{length, take, drop, getD};
+ghost use lib.ListN.{length, take, getD};
 ghost use lib.Seq.{paste};
 ghost use Rattle.rules.specs.sets.Limits.{longestWord};
-ghost use Rattle.rules.specs.strings.Strings.{same};
+ghost use Rattle.rules.specs.strings.Strings.{same, ends};
 ghost use Rattle.rules.specs.sets.Sets.{Keyword, shortest, isKeyword};
 ghost use Rattle.rules.specs.rows.Rows.{rowsOf};
 ghost use Rattle.rules.specs.Beside.{Sound, nth, common, mostCommon};
@@ -109,31 +109,33 @@ fn shared(words: &[u16], i: usize, j: usize, way: Way) -> usize
     }
 }
 
-// Whether n units of the keyword at place i, from p on, are those of the keyword at place j from q on. Most differ at
-// once here too.
-pub fn alike(words: &[u16], i: usize, p: usize, j: usize, q: usize, n: usize) -> bool
-    requires { ⌜
-        Has (now words) i
-        × Has (now words) j
-        × (p + n ≤ length (nth (keywordsIn (now words)) i .word))
-        × (q + n ≤ length (nth (keywordsIn (now words)) j .word))
-        ⌝ }
-    ensures { λ r. ⌜
-        r ≡ same (take n (drop p (nth (keywordsIn (now (words .entry))) i .word)))
-        (take n (drop q (nth (keywordsIn (now (words .entry))) j .word)))
-        ⌝ }
+// The units of the keyword at place i, as they stand in the list.
+pub fn units_of(words: &[u16], i: usize) -> &[u16]
+    requires { ⌜ Has (now words) i ⌝ }
+    ensures { λ r. ⌜ now r ≡ nth (keywordsIn (now (words .entry))) i .word ⌝ }
 {
-    if n == 0 {
+    let from = ITEM * i + 2;
+    let to = from + length_of(words, i);
+    &words[from..to]
+}
+
+// Whether a string ends with another. Most differ at once here too.
+pub fn ends_with(string: &[u16], other: &[u16]) -> bool
+    ensures { λ r. ⌜ r ≡ ends (now (other .entry)) (now (string .entry)) ⌝ }
+{
+    if string.len() < other.len() {
+        return false;
+    }
+    if other.len() == 0 {
         return true;
     }
-    let left = ITEM * i + 2 + p;
-    let right = ITEM * j + 2 + q;
-    if words[left] != words[right] {
+    let from = string.len() - other.len();
+    if string[from] != other[0] {
         return false;
     }
     let mut k = 1;
-    while k < n {
-        if words[left + k] != words[right + k] {
+    while k < other.len() {
+        if string[from + k] != other[k] {
             return false;
         }
         k += 1;
@@ -141,17 +143,14 @@ pub fn alike(words: &[u16], i: usize, p: usize, j: usize, q: usize, n: usize) ->
     true
 }
 
-// Whether the keyword at place j has the units of the one at place i, whose length is n.
-fn same_word(words: &[u16], j: usize, i: usize, n: usize) -> bool
-    requires { ⌜ Has (now words) j × Has (now words) i × (n ≡ length (nth (keywordsIn (now words)) i .word)) ⌝ }
-    ensures { λ r. ⌜
-        r ≡ same (nth (keywordsIn (now (words .entry))) j .word) (nth (keywordsIn (now (words .entry))) i .word)
-        ⌝ }
+// Whether a string is another.
+fn same_string(string: &[u16], other: &[u16]) -> bool
+    ensures { λ r. ⌜ r ≡ same (now (string .entry)) (now (other .entry)) ⌝ }
 {
-    if length_of(words, j) != n {
+    if string.len() != other.len() {
         return false;
     }
-    alike(words, j, 0, i, 0, n)
+    ends_with(string, other)
 }
 
 // Whether an earlier keyword has the units of the one at place i.
@@ -161,10 +160,11 @@ pub fn repeated(words: &[u16], i: usize) -> bool
         r ≡ isKeyword (take i (keywordsIn (now (words .entry)))) (nth (keywordsIn (now (words .entry))) i .word)
         ⌝ }
 {
-    let n = length_of(words, i);
+    let word = units_of(words, i);
     let mut j = 0;
     while j < i {
-        if same_word(words, j, i, n) {
+        let earlier = units_of(words, j);
+        if same_string(earlier, word) {
             return true;
         }
         j += 1;

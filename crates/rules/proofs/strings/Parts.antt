@@ -1,14 +1,14 @@
--- A part of a string is a part of what the string is cut from, and a string ends another where it is its last part.
-use Prim.Native.Nat.{ℕ, zero, suc, _+_, _-_, _≤_, _<_}
+-- What is left of a front is a front of what is left, and a string ends another where it is its last part.
+use Prim.Native.Nat.{ℕ, zero, suc, _-_, _≤_, _<_}
 use native.Mathlib.Omega.{arith}
 use native.Mathlib.Nat.{sub-zero, zero-sub, suc-sub-suc}
 use mathlib.Core.Path.{_≡_, refl, sym, _∙_, ap}
 use mathlib.Core.Bool.{false}
 use mathlib.Core.List.{List, [], _∷_, _++_, map, reverse, reverse-append, reverse-reverse}
 use lib.ListN.{length, take, drop, getD, length-append, length-drop, length-reverse, take-append-drop}
-use lib.Seq.{take-nil, drop-drop, drop-at, take-take, take-at}
+use lib.Seq.{take-nil, drop-at, take-at}
 use Rattle.rules.specs.strings.Strings.{same, ends}
-use Rattle.rules.proofs.strings.Strings.{fails, same-outcome, same-true, eq-same, ends-true, ends-by}
+use Rattle.rules.proofs.strings.Strings.{fails, same-outcome, same-true, eq-same, same-sym, ends-true, ends-by}
 
 -- what is left of a front is a front of what is left
 pub drop-take {ℓ} : {A : Type ℓ} (m n : ℕ) (l : List A) → drop m (take n l) ≡ take (n - m) (drop m l)
@@ -16,13 +16,6 @@ drop-take zero n l = rw (sub-zero n)
 drop-take (suc m) zero l = rw (zero-sub (suc m))
 drop-take (suc m) (suc n) [] = sym (take-nil (suc n - suc m))
 drop-take (suc m) (suc n) (x ∷ l) = rw (suc-sub-suc n m) (drop-take m n l)
-
--- z elements behind m of the n that stand behind p
-pub part-part {ℓ} : {A : Type ℓ} (l : List A) (p n m z : ℕ) → m + z ≤ n → take z (drop m (take n (drop p l))) ≡ take z (drop (p + m) l)
-part-part {A = A} l p n m z h =
-    ap (take z) (drop-take m n (drop p l))
-    ∙ take-take z (n - m) (drop m (drop p l)) (omega arith)
-    ∙ ap (take z) (drop-drop m p l)
 
 -- the last n elements, read from the list turned round
 pub reverse-take {ℓ} : {A : Type ℓ} (l : List A) (n : ℕ) → n ≤ length l → reverse (take n (reverse l)) ≡ drop (length l - n) l
@@ -57,3 +50,9 @@ pub ends-longer : (e s : List ℕ) → length s < length e → ends e s ≡ fals
 ends-longer e s h =
     fails (ends e s)
     (λ t. let w = ends-true e s t in omega (arith, ap length (w .1), length-append (w .0) e))
+
+-- of its own length only the string itself
+pub ends-same : (s e : List ℕ) → length s ≡ length e → ends e s ≡ same s e
+ends-same s e h =
+    let none : length s - length e ≡ 0 = omega arith in
+    ends-part e s (omega arith) ∙ rw none (same-sym e s)

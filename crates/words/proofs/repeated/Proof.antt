@@ -4,8 +4,10 @@ use Prim.Native.Nat.{_-_, _≤_}
 use mathlib.Core.Path.{_≡_, sym, _∙_}
 use mathlib.Core.Bool.{false}
 use denote.Ref.{now}
+use borrow.Author.Needs.{needs}
 use lib.ListN.{take}
 use native.Mathlib.Omega.{arith}
+use Rattle.rules.specs.strings.Strings.{same}
 use Rattle.rules.specs.sets.Sets.{isKeyword}
 use Rattle.rules.specs.Beside.{noKeyword, nth}
 use Rattle.rules.proofs.strings.Searched.{none-passed, none-more, one-passes}
@@ -15,29 +17,41 @@ use Rattle.words.proofs.repeated.Statement.{statement}
 use Rattle.words.proofs.repeated.Tie as tie
 
 abbrev Inv-loop : tie.InvT-loop
-Inv-loop words i n j₀ j = (j ≤ i) × (isKeyword (take j (keywordsIn words)) (nth (keywordsIn words) i .word) ≡ false)
+Inv-loop words i word j₀ j = (j ≤ i) × (isKeyword (take j (keywordsIn words)) (nth (keywordsIn words) i .word) ≡ false)
 
 abbrev μ-loop : tie.MeasureT-loop
-μ-loop words i n j₀ j = i - j
+μ-loop words i word j₀ j = i - j
 
-length-of-requires : tie.Need-length-of-requires Inv-loop μ-loop
-length-of-requires c κs = c .before .pre
+units-of-requires : tie.Need-units-of-requires Inv-loop μ-loop
+units-of-requires c κs = c .before .pre
 
 loop-holds : tie.Need-loop-holds Inv-loop μ-loop
 unfolding isKeyword
 loop-holds c = (omega arith, none-passed _ (keywordsIn (now (c .before .before .args .words))))
 
-same-word-requires : tie.Need-same-word-requires Inv-loop μ-loop
-same-word-requires c κs =
+units-of-requires-2 : tie.Need-units-of-requires-2 Inv-loop μ-loop
+units-of-requires-2 c κs =
     let p = c .before .before .before .before .pre in
-    (has-at (p .words) (omega (arith, p .within)), p, c .before .before .length-of .ensures .0)
+    has-at (p .words) (omega (arith, p .within))
+
+same-string-requires : tie.Need-same-string-requires Inv-loop μ-loop
+same-string-requires c κs = search needs
+
+-- the two strings compared are keywords
+compared : (c : tie.After-same-string Inv-loop μ-loop)
+    → let d = c .before .before .before in
+    let ks = keywordsIn (now (d .before .before .before .args .words)) in
+    c .same-string .result ≡ same (nth ks (d .loop .j) .word) (nth ks (d .before .before .before .args .i) .word)
+compared c =
+    c .same-string .ensures ∙ rw (c .before .units-of2 .ensures, c .before .before .before .before .units-of .ensures)
 
 returns : tie.Need-returns Inv-loop μ-loop
 unfolding isKeyword
 returns c =
-    let p = c .before .before .before .before .before .before .pre in
+    let p = c .before .before .before .before .before .before .before .pre in
     sym
-    (one-passes _ _ noKeyword _ _ (c .before .before .loop-test .taken) (omega (arith, p .within)) (sym (c .before .same-word .ensures) ∙ c .if1 .taken))
+    (one-passes _ _ noKeyword _ _ (c .before .before .before .loop-test .taken) (omega (arith, p .within))
+    (sym (compared (c .before)) ∙ c .if1 .taken))
 
 add-j : tie.Need-add-j Inv-loop μ-loop
 add-j c = omega arith
@@ -48,10 +62,10 @@ loop-less c = omega arith
 loop-again : tie.Need-loop-again Inv-loop μ-loop
 unfolding isKeyword
 loop-again c =
-    let p = c .before .before .before .before .before .before .pre in (
+    let p = c .before .before .before .before .before .before .before .pre in (
       omega arith,
-      none-more _ _ noKeyword (c .before .before .before .loop .j) (omega (arith, p .within)) (c .before .before .before .loop .inv .1)
-          (sym (c .before .same-word .ensures) ∙ c .if1 .left),
+      none-more _ _ noKeyword (c .before .before .before .before .loop .j) (omega (arith, p .within)) (c .before .before .before .before .loop .inv .1)
+          (sym (compared (c .before)) ∙ c .if1 .left),
     )
 
 returns-2 : tie.Need-returns-2 Inv-loop μ-loop
@@ -65,9 +79,10 @@ repeated-spec =
     (tie.spec
     Inv-loop
     μ-loop
-    length-of-requires
+    units-of-requires
     loop-holds
-    same-word-requires
+    units-of-requires-2
+    same-string-requires
     returns
     add-j
     loop-less

@@ -13,7 +13,7 @@ use Rattle.rules.specs.Beside.{nth}
 use Rattle.rules.proofs.skips.Least.{shortest-pos, shortest-short}
 use Rattle.words.specs.Items.{Has, keywordsIn}
 use Rattle.skips.specs.Suffixes.{Listed}
-use Rattle.skips.proofs.Matches.{listed-has, listed-byte, unit-read}
+use Rattle.skips.proofs.Keywords.{listed-has, listed-byte, unit-read}
 use Rattle.skips.proofs.FarTable.{Held, Table, table-none, table-other, table-met, table-all}
 use Rattle.skips.proofs.fars.far_numbers.Statement.{statement}
 use Rattle.skips.proofs.fars.far_numbers.Tie as tie

@@ -7,7 +7,7 @@ use denote.Ref.{now}
 use Rattle.words.specs.Items.{keywordsIn}
 use Rattle.words.specs.Read.{wayOf}
 use Rattle.skips.specs.Suffixes.{Walked, sharedAt}
-use Rattle.skips.proofs.Matches.{listed-has, listed-short}
+use Rattle.skips.proofs.Keywords.{listed-has, listed-short}
 use Rattle.skips.proofs.Places.{walked-row, walked-next}
 use Rattle.skips.proofs.suffixes.next.Statement.{statement}
 use Rattle.skips.proofs.suffixes.next.Tie as tie
