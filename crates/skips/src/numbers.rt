@@ -20,9 +20,10 @@ pub(crate) enum Number {
 
 // inner's test: the keyword has the suffix with exactly n bytes after it. Without those n bytes it ends with the suffix.
 fn holds_before(keyword: &[u16], suffix: &[u16], n: usize) -> bool
+    requires { ⌜ n < depths ⌝ }
     ensures { λ r. ⌜ r ≡ holdsBefore (now (suffix .entry)) n (now (keyword .entry)) ⌝ }
 {
-    if keyword.len() < n {
+    if keyword.len() < n + suffix.len() {
         return false;
     }
     let front = keyword.len() - n;
@@ -43,6 +44,7 @@ fn ends_within(keyword: &[u16], suffix: &[u16], n: usize) -> bool
 
 // Whether a keyword stops the search for a number at the distance n.
 fn stops(keyword: &[u16], suffix: &[u16], n: usize, which: Number) -> bool
+    requires { ⌜ n < depths ⌝ }
     ensures { λ r. ⌜ r ≡ stopsAt which (now (suffix .entry)) n (now (keyword .entry)) ⌝ }
 {
     match which {
@@ -53,7 +55,7 @@ fn stops(keyword: &[u16], suffix: &[u16], n: usize, which: Number) -> bool
 
 // Whether some keyword does.
 fn some_stops(words: &[u16], suffix: &[u16], n: usize, which: Number) -> bool
-    requires { ⌜ Words (now words) ⌝ }
+    requires { ⌜ Words (now words) × (n < depths) ⌝ }
     ensures { λ r. ⌜ r ≡ someStops which (keywordsIn (now (words .entry))) (now (suffix .entry)) n ⌝ }
 {
     let count = count_of(words);

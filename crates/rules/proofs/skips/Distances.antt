@@ -16,7 +16,7 @@ use Rattle.rules.proofs.strings.Parts.{drop-take, ends-part, ends-longe
 
 module _ (v w : List ℕ) (n : ℕ) where
   -- w has v with n bytes after it
-  pub holds-none : length w < n → holdsBefore v n w ≡ false
+  holds-none : length w < n → holdsBefore v n w ≡ false
   unfolding holdsBefore
   holds-none h = rw (lt-leb n (length w) h)
 

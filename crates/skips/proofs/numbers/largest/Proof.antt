@@ -36,7 +36,9 @@ loop-holds : tie.Need-loop-holds Inv-loop μ-loop
 loop-holds c = searched-none _ _ (shortest-pos (c .before .before .pre .1))
 
 some-stops-requires : tie.Need-some-stops-requires Inv-loop μ-loop
-some-stops-requires c κs = c .before .before .before .before .pre .0
+some-stops-requires c κs =
+    let d = c .before .before .before .before in
+    (d .pre .0, omega (arith, high d))
 
 returns : tie.Need-returns Inv-loop μ-loop
 returns c =

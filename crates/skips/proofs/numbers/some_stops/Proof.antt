@@ -34,10 +34,10 @@ within : (c : tie.In-loop Inv-loop μ-loop)
 within c = omega (arith, c .before .before .count-of .ensures)
 
 units-of-requires : tie.Need-units-of-requires Inv-loop μ-loop
-units-of-requires c κs = has-at (c .before .before .before .before .before .pre) (within c)
+units-of-requires c κs = has-at (c .before .before .before .before .before .pre .0) (within c)
 
 stops-requires : tie.Need-stops-requires Inv-loop μ-loop
-stops-requires c κs = search needs
+stops-requires c κs = c .before .before .before .before .before .before .pre .1
 
 -- the string tried is the keyword at place k
 tried : (c : tie.After-stops Inv-loop μ-loop)
