@@ -185,19 +185,29 @@ fn least(keywords: &[Keyword], passes: impl Fn(usize, &[u8]) -> bool) -> u8 {
     (1..m).find(|&n| keywords.iter().any(|k| passes(n, &k.word))).unwrap_or(m) as u8
 }
 
+/// The word has v with exactly n bytes after it.
+pub fn holds_before(word: &[u8], v: &[u8], n: usize) -> bool {
+    n <= word.len() && word[..word.len() - n].ends_with(v)
+}
+
+/// Some string made of v and n further bytes ends with the word.
+pub fn ends_within(word: &[u8], v: &[u8], n: usize) -> bool {
+    word.len() <= n || v.ends_with(&word[..word.len() - n])
+}
+
 /// Some keyword has v with exactly n bytes after it.
 pub fn inner(keywords: &[Keyword], v: &[u8]) -> u8 {
-    least(keywords, |n, w| n <= w.len() && w[..w.len() - n].ends_with(v))
+    least(keywords, |n, w| holds_before(w, v, n))
 }
 
 /// Some string made of v and n further bytes ends with a keyword.
 pub fn edge(keywords: &[Keyword], v: &[u8]) -> u8 {
-    least(keywords, |n, w| w.len() <= n || v.ends_with(&w[..w.len() - n]))
+    least(keywords, |n, w| ends_within(w, v, n))
 }
 
 /// Some keyword holds a with exactly z + n bytes after it.
 pub fn far(keywords: &[Keyword], a: u8, z: usize) -> u8 {
-    least(keywords, |n, w| z + n < w.len() && w[w.len() - 1 - z - n] == a)
+    least(keywords, |n, w| holds_before(w, &[a], z + n))
 }
 
 /// A row's suffix in its sixteen places.
@@ -269,30 +279,60 @@ pub fn check(set: &[u8], lent: &Table, workspace: &mut [u16]) -> Answer {
     fault(&keywords, lent).unwrap_or_else(|| counted(&keywords))
 }
 
-/// The questions of the backward scan as document 01 runs it, by the numbers of the lent files.
-pub fn run_questions(keywords: &[Keyword], trace: &[u8], lent: &Table) -> u32 {
-    let rows = rows(keywords, Way::Backward);
-    let mut asked = 0;
-    let mut end = lent.rows[17] as usize;
-    while end <= trace.len() {
-        let mut depth = 0;
-        let mut missing = None;
-        while depth < end {
-            asked += 1;
-            if !rows.iter().any(|r| r[..] == trace[end - depth - 1..end]) {
-                missing = Some(trace[end - depth - 1]);
-                break;
-            }
-            depth += 1;
-        }
-        let row = rows.iter().position(|r| r[..] == trace[end - depth..end]).expect("what was read is a row");
-        let (inner, edge) = (lent.rows[ROW * row + 16], lent.rows[ROW * row + 17]);
-        end += match missing {
-            None => edge,
-            Some(c) => edge.min(inner.max(lent.bytes[16 * c as usize + depth])),
-        } as usize;
+/// One window of the backward scan: its end, the row that it reached and that row's depth, the byte before it that has no child if one
+/// remained, and how far the scan moves on.
+#[derive(Clone, Copy, Debug, PartialEq, Eq)]
+pub struct Window {
+    pub end: usize,
+    pub row: usize,
+    pub depth: usize,
+    pub missing: Option<u8>,
+    pub on: usize,
+}
+
+impl Window {
+    /// Its questions: one for each byte read, the one without a child too.
+    pub fn asked(&self) -> usize {
+        self.depth + usize::from(self.missing.is_some())
     }
-    asked
+}
+
+/// The window at an end: bytes are read backward as long as what was read is a row.
+fn window(rows: &[Vec<u8>], trace: &[u8], lent: &Table, end: usize) -> Window {
+    let row = |depth: usize| rows.iter().position(|r| r[..] == trace[end - depth..end]);
+    let depth = (0..end).find(|&depth| row(depth + 1).is_none()).unwrap_or(end);
+    let missing = (depth < end).then(|| trace[end - depth - 1]);
+    let row = row(depth).expect("what was read is a row");
+    let (inner, edge) = (lent.rows[ROW * row + 16], lent.rows[ROW * row + 17]);
+    let on = match missing {
+        None => edge,
+        Some(c) => edge.min(inner.max(lent.bytes[16 * c as usize + depth])),
+    };
+    Window { end, row, depth, missing, on: on as usize }
+}
+
+/// The windows of the backward scan as document 01 runs it, by whatever numbers files of the right size hold: they are not checked. A number
+/// of 0 ends the run, which would never move on.
+pub fn windows<'a>(keywords: &[Keyword], trace: &'a [u8], lent: &'a Table) -> impl Iterator<Item = Window> + 'a {
+    let rows = rows(keywords, Way::Backward);
+    let at = move |end: usize| (end <= trace.len()).then(|| window(&rows, trace, lent, end));
+    std::iter::successors(at(lent.rows[17] as usize), move |w| if w.on > 0 { at(w.end + w.on) } else { None })
+}
+
+/// The questions of that run.
+pub fn run_questions(keywords: &[Keyword], trace: &[u8], lent: &Table) -> u32 {
+    windows(keywords, trace, lent).map(|w| w.asked() as u32).sum()
+}
+
+/// The keywords whose rows a window entered, the last one entered first.
+pub fn entered(keywords: &[Keyword], trace: &[u8], w: &Window) -> Vec<usize> {
+    (1..=w.depth).rev().filter_map(|n| keywords.iter().position(|k| k.word == trace[w.end - n..w.end])).collect()
+}
+
+/// The hits of that run: every keyword row entered.
+pub fn run_hits(keywords: &[Keyword], trace: &[u8], lent: &Table) -> Vec<(u32, u32)> {
+    let hits = |w: Window| entered(keywords, trace, &w).into_iter().map(move |k| (w.end as u32, k as u32));
+    windows(keywords, trace, lent).flat_map(hits).collect()
 }
 
 /// The backward scan, with every lent buffer.

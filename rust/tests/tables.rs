@@ -193,6 +193,37 @@ fn the_slipped_row() {
     assert!(caught > 20);
 }
 
+/// The slow version's run, which checks nothing: under a table that the check accepts it meets every hit; under others it ends, and meets
+/// hits alone. A row of W that slipped loses all of them.
+#[test]
+fn runs_without_the_check() {
+    let (w, mut lost) = (bench_set(), 0);
+    let keywords = slow::keywords(&w).expect("W passes");
+    let mut slipped = bezowik::make(&w).expect("W passes");
+    slipped.rows.copy_within(ROW..2 * ROW, 0);
+    assert_eq!((slow::hits(&keywords, BENCH_TRACE).len(), slow::run_hits(&keywords, BENCH_TRACE, &slipped)), (5, vec![]));
+    for seed in 5500..5700 {
+        println!("seed {seed}");
+        let mut random = Random::new(seed);
+        let set = random_set(&mut random);
+        let keywords = slow::keywords(&set).expect("the set passes");
+        let table = bezowik::make(&set).expect("the set passes");
+        let trace = random_trace(&mut random, &set, 200);
+        let hits = slow::hits(&keywords, &trace);
+        for lent in [table.clone(), ones(&table), smaller(&mut random, &table)] {
+            assert_eq!(slow::run_hits(&keywords, &trace, &lent), hits);
+        }
+        let mut wrong = table.clone();
+        for n in wrong.bytes.iter_mut().chain(wrong.rows.chunks_mut(ROW).flat_map(|row| &mut row[16..])) {
+            *n = random.below(5) as u8;
+        }
+        let met = slow::run_hits(&keywords, &trace, &wrong);
+        assert!(met.iter().all(|hit| hits.contains(hit)));
+        lost += hits.len() - met.len();
+    }
+    assert!(lost > 1000, "{lost}");
+}
+
 #[test]
 fn backward_beside_forward() {
     for seed in 6000..6200 {
