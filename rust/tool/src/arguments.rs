@@ -8,8 +8,9 @@ use std::path::PathBuf;
 const STATUS: &str = "\
 A file name of - is standard input, or standard output where one file is written.
 
-Exit status: 0 done; 1 a refusal, a table that is not safe, or a wrong line of a csv; 2 bad usage,
-or a file that cannot be read or written; 4 `compare --fail-over` found a build that draws too much.";
+Exit status: 0 done; 1 a refusal, a table that is not safe, a wrong line of a csv, or a suffix that
+is no row; 2 bad usage, or a file that cannot be read or written; 4 `compare --fail-over` found a
+build that draws too much.";
 
 /// What `bezowik set --help` says at its end.
 const CSV: &str = "\
@@ -25,6 +26,21 @@ Hex is pairs of digits, with spaces between or without. In a spreadsheet write t
 typed as a number becomes 10. Text is printable ASCII. An energy is a whole number of picojoules,
 0 to 65535. Every wrong line is told, and nothing is written unless all are right. What was taken
 is listed, in bytes and in text.";
+
+/// The two ways to use `bezowik explain`.
+const ROW_OR_BYTE: &str = "\
+bezowik explain <SET.bin> <SUFFIX>
+       bezowik explain <SET.bin> --byte <BYTE>";
+
+/// What `bezowik explain --help` says at its end.
+const SUFFIXES: &str = "\
+A suffix is what a row stands for: the end of a keyword. It is written in hex, or as text in quotes
+that the shell leaves in place; a byte is written in the same ways.
+
+    bezowik explain set.bin '4c 4d'      the row of the suffix 4c 4d
+    bezowik explain set.bin '\"LM\"'       the same row, by its text
+    bezowik explain set.bin ''           row 0, the empty suffix
+    bezowik explain set.bin --byte 4c    the far numbers of the byte 4c";
 
 /// Counts measured opcode sequences in a trace, and the energy that they draw.
 #[derive(Parser)]
@@ -49,6 +65,9 @@ pub enum Command {
     Compare(Compare),
     /// Prints a set or a file of a skip table as csv
     Show(Show),
+    /// Tells how the largest numbers of a row or a byte are found
+    #[command(override_usage = ROW_OR_BYTE, after_help = SUFFIXES)]
+    Explain(Explain),
     /// Prints what makes a shell complete this tool's commands
     Completions(Completions),
 }
@@ -162,6 +181,19 @@ pub struct Show {
     /// A keyword set, a row file or a byte file: what it is, is told from its bytes
     #[arg(value_name = "FILE.bin")]
     pub file: PathBuf,
+}
+
+#[derive(Args)]
+pub struct Explain {
+    /// The keyword set
+    #[arg(value_name = "SET.bin")]
+    pub set: PathBuf,
+    /// The suffix of the row whose inner and edge are told
+    #[arg(value_name = "SUFFIX", required_unless_present = "byte", conflicts_with = "byte")]
+    pub suffix: Option<String>,
+    /// Tell the far numbers of this byte, in place of a row's
+    #[arg(long, value_name = "BYTE")]
+    pub byte: Option<String>,
 }
 
 #[derive(Args)]

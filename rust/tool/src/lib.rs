@@ -3,6 +3,7 @@
 pub mod arguments;
 pub mod cells;
 pub mod counts;
+pub mod drawings;
 pub mod faults;
 pub mod files;
 pub mod jobs;
@@ -11,9 +12,11 @@ pub mod kinds;
 pub mod outputs;
 pub mod records;
 pub mod refusals;
+pub mod searches;
 pub mod sets;
 pub mod tabled;
 pub mod text;
+pub mod written;
 
 use arguments::{Arguments, Command};
 use clap::{CommandFactory, Parser};
@@ -26,7 +29,7 @@ pub enum Failure {
     Usage(String),
     /// A file that cannot be read or written; the message names it.
     File(String),
-    /// A refusal of the library, or wrong lines in a csv.
+    /// A refusal of the library, wrong lines in a csv, or a suffix that is no row.
     Refused(String),
     /// A build that draws more than it may; the result has been printed.
     Over(String),
@@ -115,6 +118,7 @@ fn run(command: &Command, out: &mut dyn Write) -> Done {
         Command::Scan(asked) => jobs::scan::run(asked, out),
         Command::Compare(asked) => jobs::compare::run(asked, out),
         Command::Show(asked) => jobs::show::run(asked, out),
+        Command::Explain(asked) => jobs::explain::run(asked, out),
         Command::Completions(asked) => {
             let mut text = Vec::new();
             clap_complete::generate(asked.shell, &mut Arguments::command(), "bezowik", &mut text);

@@ -25,7 +25,12 @@ pub fn plain(text: &str) -> String {
 
 /// A name as a shell reads it back.
 pub fn shell_name(name: &Path) -> String {
-    let text = shown_name(name);
+    shell_word(&name.to_string_lossy())
+}
+
+/// An argument as a shell reads it back.
+pub fn shell_word(argument: &str) -> String {
+    let text = plain(argument);
     let bare = |c: char| c.is_alphanumeric() || matches!(c, '/' | '.' | '-' | '_' | '+' | ',' | ':' | '@' | '%' | '=');
     match !text.is_empty() && text.chars().all(bare) {
         true => text,

@@ -65,6 +65,7 @@ bytes.bin  byte 4c (L) depth 2                    far      2        1
 4 faults
 1 of 4112 numbers is below the largest safe one: safe, but slower than need be
 {REMAKE}
+this tells how the largest numbers of row 0 are found: bezowik explain w.bin ''
 "
     );
     assert_eq!(out, expected);
@@ -81,6 +82,7 @@ bytes.bin  byte 4c (L) depth 2                    far      2        1
     let json: serde_json::Value = serde_json::from_str(&json).expect("json");
     assert_eq!((status, &json["safe"], &json["refusal"], &json["place"]), (1, &false.into(), &12.into(), &0.into()));
     assert_eq!((&json["numbers"], &json["below"], &json["swapped"]), (&4112.into(), &1.into(), &false.into()));
+    assert_eq!(json["explain"], "bezowik explain w.bin ''");
     let fault = serde_json::json!({
         "refusal": 12, "place": 3, "at": "row 3", "suffix": "41 4c 4d", "text": "ALM",
         "what": "edge", "found": 0, "largest": 2,
@@ -97,14 +99,16 @@ fn sizes() {
         let (out, told) = refused(&folder, &table);
         let fault: Vec<&str> = out.lines().nth(1).unwrap_or_default().split_whitespace().collect();
         assert_eq!(fault.join(" "), format!("rows.bin row file size {length} bytes 144 bytes"));
-        assert!(out.trim_end().ends_with("bezowik tables w.bin rows.bin bytes.bin --force"), "{out}");
+        assert!(out.contains("bezowik tables w.bin rows.bin bytes.bin --force\n"), "{out}");
+        assert!(out.ends_with("numbers of row 0 are found: bezowik explain w.bin ''\n"), "{out}");
         let expected = format!("the row file has {length} bytes, and this set's 8 rows need exactly 144");
         assert_eq!(told, format!("rows.bin: refusal 10 place 8: {expected}: make the tables again for this set\n"));
     }
     for length in [0, BYTES - 1, BYTES + 1] {
         let mut table = bench_table();
         table.bytes.resize(length, 1);
-        let (_, told) = refused(&folder, &table);
+        let (out, told) = refused(&folder, &table);
+        assert!(out.ends_with("numbers of byte 00 are found: bezowik explain w.bin --byte 00\n"), "{out}");
         let expected =
             format!("the byte file has {length} bytes, and it must have exactly 4096: make the tables again");
         assert_eq!(told, format!("bytes.bin: refusal 13 place 0: {expected}\n"));
@@ -122,13 +126,13 @@ fn a_row_slipped() {
     let expected = "rows.bin: refusal 11 place 0: row 0 is the empty suffix, but its record names suffix 4d (M): \
 the file was made for another set, or a row slipped\n";
     assert_eq!(told, expected);
-    let remake = out.lines().last().and_then(|line| line.split("bezowik ").nth(1)).expect("a command");
-    folder.done(remake);
+    let remake = out.lines().find(|line| line.starts_with("this makes the tables again")).expect("a line");
+    folder.done(remake.split("bezowik ").nth(1).expect("a command"));
     assert_eq!(Table { rows: folder.read("rows.bin"), bytes: folder.read("bytes.bin") }, bench_table());
     // and with a name that a shell would take apart
     folder.write("a b'c.bin", &table.rows);
     let (_, out, _) = folder.run_with(&["check", "w.bin", "a b'c.bin", "bytes.bin"]);
-    assert!(out.ends_with("bezowik tables w.bin 'a b'\\''c.bin' bytes.bin --force\n"), "{out}");
+    assert!(out.contains("bezowik tables w.bin 'a b'\\''c.bin' bytes.bin --force\n"), "{out}");
 }
 
 #[test]
@@ -151,6 +155,7 @@ this checks them in their places: bezowik check w.bin rows.bin bytes.bin
     let (_, json, _) = folder.run("check w.bin bytes.bin rows.bin --json");
     let json: serde_json::Value = serde_json::from_str(&json).expect("json");
     assert_eq!((&json["swapped"], &json["mend"]), (&true.into(), &"bezowik check w.bin rows.bin bytes.bin".into()));
+    assert_eq!(json.get("explain"), Some(&serde_json::Value::Null));
 }
 
 /// The faults are the library's: none where it accepts, and its refusal is the first that its order of tests meets.

@@ -10,20 +10,24 @@ use folder::Folder;
 fn help() {
     let folder = Folder::bench("help");
     let help = folder.done("--help");
-    for word in ["set", "tables", "check", "scan", "compare", "show", "completions", "Exit status: 0 done; 1 a refusal"]
-    {
-        assert!(help.contains(word), "{word}");
+    for word in ["set", "tables", "check", "scan", "compare", "show", "explain", "completions"] {
+        assert!(help.contains(&format!("\n  {word} ")), "{word}");
     }
+    assert!(help.contains("Exit status: 0 done; 1 a refusal"), "{help}");
     assert_eq!(folder.done("-h"), help);
     let set = folder.done("set --help");
     assert!(set.contains("--text") && set.contains("--force") && set.contains("A first row names"), "{set}");
     assert_eq!(folder.done("help set"), set);
+    let explain = folder.done("explain --help");
+    for word in ["--byte <BYTE>", "[SUFFIX]", "'4c 4d'", "'\"LM\"'", "''", "--byte 4c"] {
+        assert!(explain.contains(word), "{word}: {explain}");
+    }
     assert_eq!(folder.done("--version"), concat!("bezowik ", env!("CARGO_PKG_VERSION"), "\n"));
     assert!(folder.fails(2, "").contains("Usage: bezowik <COMMAND>"));
     for shell in ["bash", "zsh", "fish"] {
         assert!(folder.done(&format!("completions {shell}")).contains("compare"), "{shell}");
     }
-    for told in help.lines().chain(set.lines()) {
+    for told in help.lines().chain(set.lines()).chain(explain.lines()) {
         assert!(told.chars().count() <= 100, "{told}");
     }
 }
@@ -52,6 +56,8 @@ fn misuse() {
         ("compare w.bin t.bin t.bin --fail-over much", "such as 5 or 2.5"),
         ("tables w.bin - b.bin", "two files are written, so that neither can be standard output"),
         ("tables w.bin r.bin -", "two files are written, so that neither can be standard output"),
+        ("explain w.bin", "bezowik explain <SET.bin> --byte <BYTE>"),
+        ("explain w.bin 4c --byte 4c", "'[SUFFIX]' cannot be used with '--byte <BYTE>'"),
         ("scan - -", "standard input can be read only once"),
         ("compare w.bin - t.bin -", "standard input can be read only once"),
         ("check w.bin - -", "standard input can be read only once"),
@@ -84,13 +90,16 @@ fn names_with_control_characters() {
     let safe = "\\x1b[31mx\\u{202e}\\x07\\x0a.bin";
     folder.write(name, common::BENCH_TRACE);
     let bare = |text: &str| !text.chars().any(|c| (c.is_control() && c != '\n') || c == '\u{202e}');
-    let commands: [&[&str]; 9] = [
+    let commands: [&[&str]; 12] = [
         &["scan", "w.bin", name],
         &["scan", "w.bin", "t.bin", "--backward", name, "bytes.bin"],
         &["scan", name, "t.bin"],
         &["compare", "w.bin", "t.bin", name],
         &["check", "w.bin", name, "bytes.bin"],
         &["show", name],
+        &["explain", name, "4c"],
+        &["explain", "w.bin", name],
+        &["explain", "w.bin", "--byte", name],
         &["tables", "w.bin", name, "b.bin"],
         &[name],
         &["scan", "w.bin", "t.bin", "--sort", name],

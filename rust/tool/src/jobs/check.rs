@@ -2,12 +2,13 @@
 
 use super::{print_csv, print_json};
 use crate::arguments::{Check, Printed};
-use crate::faults::{audit, Audit, Fault};
+use crate::faults::{audit, byte_shown, Audit, Fault};
 use crate::files::{distinct, read, read_tables, Input, Tables};
 use crate::keywords::LEFT;
 use crate::kinds::{kind, Kind};
+use crate::records::DEPTHS;
 use crate::refusals::{accepted, Lent};
-use crate::text::{cells, columns, counted, hex, shell_name, shown_name};
+use crate::text::{cells, columns, counted, hex, shell_name, shell_word, shown_name};
 use crate::{Done, Failure};
 use bezowik::Answer;
 use serde_json::{json, Value};
@@ -58,6 +59,19 @@ fn mend(asked: &Check, tables: &Tables, swapped: bool) -> String {
     }
 }
 
+/// The row or the byte of the first fault, and the command that tells how its largest numbers are found. Where the
+/// files look swapped no number is at fault.
+fn explained(asked: &Check, audit: &Audit) -> Option<(String, String)> {
+    let fault = audit.faults.first().filter(|_| !audit.swapped)?;
+    let set = shell_name(&asked.set);
+    let byte = (fault.place / DEPTHS) as u8;
+    Some(match fault.number {
+        10 => ("row 0".to_string(), format!("bezowik explain {set} ''")),
+        11 | 12 => (fault.at.clone(), format!("bezowik explain {set} {}", shell_word(&hex(&fault.suffix)))),
+        _ => (format!("byte {}", byte_shown(byte)), format!("bezowik explain {set} --byte {byte:02x}")),
+    })
+}
+
 /// The result for a person.
 fn in_text(asked: &Check, tables: &Tables, answer: Answer, audit: &Audit, out: &mut dyn Write) -> Done {
     if answer.number == 0 {
@@ -79,6 +93,9 @@ fn in_text(asked: &Check, tables: &Tables, answer: Answer, audit: &Audit, out: &
     }
     if answer.number != 0 || audit.below > 0 {
         writeln!(out, "this makes the tables again, with the largest safe numbers: {mend}")?;
+    }
+    if let Some((what, explain)) = explained(asked, audit) {
+        writeln!(out, "this tells how the largest numbers of {what} are found: {explain}")?;
     }
     Ok(())
 }
@@ -112,6 +129,7 @@ fn in_json(asked: &Check, tables: &Tables, answer: Answer, audit: &Audit) -> Val
         "faults": audit.faults.iter().map(Fault::as_json).collect::<Vec<_>>(),
         "numbers": audit.numbers, "below": audit.below, "swapped": audit.swapped,
         "mend": mend(asked, tables, audit.swapped),
+        "explain": explained(asked, audit).map(|(_, explain)| explain),
     })
 }
 

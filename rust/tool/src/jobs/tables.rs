@@ -35,7 +35,7 @@ pub fn run(asked: &Tables, out: &mut dyn Write) -> Done {
 }
 
 /// The table with the largest safe numbers.
-fn made(set: &Input) -> Result<Table, Failure> {
+pub fn made(set: &Input) -> Result<Table, Failure> {
     bezowik::make(&set.bytes).map_err(|refusal| refused(refusal, &Lent { set, trace: None, tables: None }))
 }
 
