@@ -1,11 +1,11 @@
 #!/usr/bin/env python3
-"""Runs the README's commands and compares what they print.
+"""Runs the commands of the pages that have some, and compares what they print.
 
 A command is an indented line that begins with `$ `; what it prints stands under it. A fenced block of C whose first line names a file is
-that file. Commands run one after another in a folder of their own that has the repository's examples, header and library; ./bench-files
-runs where it stands. With --renew the README gets what was printed.
+that file. A page's commands run one after another in a folder of their own that has the repository's examples, header and library;
+./bench-files runs where it stands. With --renew the pages get what was printed.
 
-usage: readme.py [--renew]
+usage: pages.py [--renew]
 """
 import os
 import re
@@ -15,20 +15,21 @@ import tempfile
 from pathlib import Path
 
 TOP = Path(__file__).resolve().parent.parent
-README = TOP / "README.md"
+PAGES = [TOP / "README.md", TOP / "docs/SKIPS.md"]
+PROGRAMS = [TOP / "rust/tool/target/release", TOP / "rust/target/release/examples"]
 PROMPT = "    $ "
 NAMED = re.compile(r"^```c\n/\* (\w+\.c)[^\n]*\n.*?^```$", re.M | re.S)
 
 
 def sources(text, folder):
-    """Puts the README's C programs into the folder."""
+    """Puts a page's C programs into the folder."""
     for block in NAMED.finditer(text):
         lines = block.group(0).splitlines()
         (folder / block.group(1)).write_text("\n".join(lines[1:-1]) + "\n")
 
 
 def pieces(text):
-    """The README in pieces: text, and commands each with the lines under it."""
+    """A page in pieces: text, and commands each with the lines under it."""
     lines = text.split("\n")
     at = 0
     while at < len(lines):
@@ -46,17 +47,17 @@ def pieces(text):
 
 
 def printed(command, folder):
-    """What a command prints, on either stream, as lines of the README."""
-    path = f"{TOP / 'rust/tool/target/release'}{os.pathsep}{os.environ['PATH']}"
+    """What a command prints, on either stream, as lines of a page."""
+    path = os.pathsep.join([*map(str, PROGRAMS), os.environ["PATH"]])
     where = TOP if command.startswith("./bench-files") else folder
     ran = subprocess.run(["bash", "-c", command], cwd=where, env={**os.environ, "PATH": path}, stdout=subprocess.PIPE,
                          stderr=subprocess.DEVNULL if where == TOP else subprocess.STDOUT, text=True)
     return [f"    {line}".rstrip() for line in ran.stdout.rstrip("\n").split("\n")] if ran.stdout else []
 
 
-def main():
-    """Every command of the README, in its order."""
-    text = README.read_text()
+def run(page, renew):
+    """Every command of a page, in its order: how many there are, and how many print something else. With renew the page follows."""
+    text = page.read_text()
     faults, commands, renewed = 0, 0, []
     with tempfile.TemporaryDirectory() as name:
         folder = Path(name)
@@ -70,18 +71,25 @@ def main():
             commands += 1
             found = printed(command, folder)
             renewed += [PROMPT + command, *found]
-            if found != lines:
+            if found != lines and not renew:
                 faults += 1
-                print(f"readme: {command}\n  prints\n" + "\n".join(found) + "\n  and the README has\n" + "\n".join(lines))
-    if "--renew" in sys.argv[1:]:
-        README.write_text("\n".join(renewed))
-        return 0
-    if commands == 0:
-        print("readme: no command in it")
-        return 1
-    if not faults:
-        print(f"readme: {commands} commands, each prints what stands there")
-    return 1 if faults else 0
+                print(f"pages: {page.name}: {command}\n  prints\n" + "\n".join(found) + "\n  and the page has\n" + "\n".join(lines))
+    if renew:
+        page.write_text("\n".join(renewed))
+    return commands, faults
+
+
+def main():
+    """Every page."""
+    wrong = False
+    for page in PAGES:
+        commands, faults = run(page, "--renew" in sys.argv[1:])
+        wrong |= faults > 0 or commands == 0
+        if commands == 0:
+            print(f"pages: {page.name}: no command in it")
+        elif faults == 0:
+            print(f"pages: {page.name}: {commands} commands, each prints what stands there")
+    return 1 if wrong else 0
 
 
 if __name__ == "__main__":
