@@ -22,57 +22,41 @@ const INNER_IS: &str = "the least n from 1 up such that some keyword has the suf
 const EDGE_IS: &str =
     "the least n from 1 up such that some string made of the suffix and n further bytes ends with a keyword";
 
-/// What a run that must succeed prints, for arguments that may hold anything.
-fn done(folder: &Folder, arguments: &[&str]) -> String {
-    let (status, out, told) = folder.run_with(arguments);
-    assert_eq!((status, told.as_str()), (0, ""), "{arguments:?}");
-    out
+/// What is told of a number of which only n = 1 was tried, in vain.
+const CAPPED: &str = "  n = 1: no keyword\n  n = 2: the cap, m\n";
+
+/// What is printed of a row: its two first lines, each number with what is told of it, and the cap drawn, or nothing.
+fn row_told(head: [&str; 2], inner: (u8, &str), edge: (u8, &str), cap: &str) -> String {
+    let number = |name: &str, what: &str, (n, told): (u8, &str)| format!("\n{name} = {n}: {what}\n{told}");
+    let numbers = number("inner", INNER_IS, inner) + &number("edge", EDGE_IS, edge);
+    format!("{}\n{}\n{numbers}{cap}", head[0], head[1])
 }
 
 #[test]
 fn bench_rows() {
     let folder = Folder::bench("bench_rows");
     let shortest = "m = 2: the shortest keyword is 0, 4c 4d (LM), and no number is above its length";
-    let la = format!(
-        "row 5: suffix 4c 41 (LA)
-{shortest}
-
-inner = 2: {INNER_IS}
-  n = 1: no keyword
-  n = 2: the cap, m
-
-edge = 2: {EDGE_IS}
-  n = 1: no keyword
-  n = 2: the cap, m
-
+    let cap = "
 at the cap keyword 0 stands whole behind the suffix:
   suffix     4c 41 | .. ..    LA|..
   keyword 0        | 4c 4d      |LM
-"
-    );
+";
+    let la = row_told(["row 5: suffix 4c 41 (LA)", shortest], (2, CAPPED), (2, CAPPED), cap);
     for written in ["\"LA\"", "4c 41", "4c41", "0x4c41", " 4C  0x41 "] {
-        assert_eq!(done(&folder, &["explain", "w.bin", written]), la, "{written}");
+        assert_eq!(folder.done_with(&["explain", "w.bin", written]), la, "{written}");
     }
-    let empty = format!(
-        "row 0: the empty suffix
-{shortest}
-
-inner = 1: {INNER_IS}
-  n = 1: keyword 0, 4c 4d (LM)
+    let inner = "  n = 1: keyword 0, 4c 4d (LM)
     suffix        | ..     |.
     keyword 0  4c | 4d    L|M
-
-edge = 2: {EDGE_IS}
-  n = 1: no keyword
-  n = 2: the cap, m
-
+";
+    let cap = "
 at the cap keyword 0 stands whole behind the suffix:
   suffix     | .. ..    |..
   keyword 0  | 4c 4d    |LM
-"
-    );
+";
+    let empty = row_told(["row 0: the empty suffix", shortest], (1, inner), (2, CAPPED), cap);
     for written in ["", "\"\"", " "] {
-        assert_eq!(done(&folder, &["explain", "w.bin", written]), empty, "{written:?}");
+        assert_eq!(folder.done_with(&["explain", "w.bin", written]), empty, "{written:?}");
     }
 }
 
@@ -92,7 +76,7 @@ depth  far  no  keyword        text    bytes after it
 {capped}"
     );
     for written in ["4c", "4C", "0x4c", " 4c", "\"L\""] {
-        assert_eq!(done(&folder, &["explain", "w.bin", "--byte", written]), expected, "{written}");
+        assert_eq!(folder.done_with(&["explain", "w.bin", "--byte", written]), expected, "{written}");
     }
 }
 
@@ -102,40 +86,22 @@ fn keywords_that_stop() {
     let folder = Folder::new("keywords_that_stop");
     folder.write("k.bin", &[record(b"AB", 1), record(b"BA", 2)].concat());
     let shortest = "m = 2: the shortest keyword is 0, 41 42 (AB), and no number is above its length";
-    let both = format!(
-        "row 1: suffix 42 (B)
-{shortest}
-
-inner = 1: {INNER_IS}
-  n = 1: keyword 1, 42 41 (BA)
+    let stopped = "  n = 1: keyword 1, 42 41 (BA)
     suffix     42 | ..    B|.
     keyword 1  42 | 41    B|A
-
-edge = 1: {EDGE_IS}
-  n = 1: keyword 1, 42 41 (BA)
-    suffix     42 | ..    B|.
-    keyword 1  42 | 41    B|A
-"
-    );
+";
+    let both = row_told(["row 1: suffix 42 (B)", shortest], (1, stopped), (1, stopped), "");
     assert_eq!(folder.done("explain k.bin 42"), both);
-    let edge = format!(
-        "row 2: suffix 41 42 (AB)
-{shortest}
-
-inner = 2: {INNER_IS}
-  n = 1: no keyword
-  n = 2: the cap, m
-
-edge = 1: {EDGE_IS}
-  n = 1: keyword 1, 42 41 (BA)
+    let stopped = "  n = 1: keyword 1, 42 41 (BA)
     suffix     41 42 | ..    AB|.
     keyword 1     42 | 41     B|A
-
+";
+    let cap = "
 at the cap keyword 0 stands whole behind the suffix:
   suffix     41 42 | .. ..    AB|..
   keyword 0        | 41 42      |AB
-"
-    );
+";
+    let edge = row_told(["row 2: suffix 41 42 (AB)", shortest], (2, CAPPED), (1, stopped), cap);
     assert_eq!(folder.done("explain k.bin \"AB\""), edge);
 }
 
@@ -144,21 +110,14 @@ at the cap keyword 0 stands whole behind the suffix:
 fn a_keyword_of_one_byte() {
     let folder = Folder::new("a_keyword_of_one_byte");
     folder.write("k.bin", &[record(b"\x01\x02", 1), record(b"\x02", 2), record(b"B", 3)].concat());
-    let expected = format!(
-        "row 2: suffix 01 02
-m = 1: the shortest keyword is 1, 02, and no number is above its length
-
-inner = 1: {INNER_IS}
-  n = 1: the cap, m
-
-edge = 1: {EDGE_IS}
-  n = 1: the cap, m
-
+    let shortest = "m = 1: the shortest keyword is 1, 02, and no number is above its length";
+    let untried = (1, "  n = 1: the cap, m\n");
+    let cap = "
 at the cap keyword 1 stands whole behind the suffix:
   suffix     01 02 | ..
   keyword 1        | 02
-"
-    );
+";
+    let expected = row_told(["row 2: suffix 01 02", shortest], untried, untried, cap);
     assert_eq!(folder.done("explain k.bin 0102"), expected);
     let byte = folder.done("explain k.bin --byte 02");
     assert!(byte.starts_with("byte 02\nm = 1: the shortest keyword is 1, 02, and "), "{byte}");
@@ -406,9 +365,9 @@ fn the_command() {
             let record = &table.rows[ROW * row..ROW * (row + 1)];
             let suffix = &record[1..1 + usize::from(record[0])];
             let expected = of_row(&keywords, &table, row).ok().expect("the row");
-            assert_eq!(done(&folder, &["explain", "s.bin", &hex(suffix)]), expected);
+            assert_eq!(folder.done_with(&["explain", "s.bin", &hex(suffix)]), expected);
             if let Some(text) = text(suffix) {
-                assert_eq!(done(&folder, &["explain", "s.bin", &format!("\"{text}\"")]), expected);
+                assert_eq!(folder.done_with(&["explain", "s.bin", &format!("\"{text}\"")]), expected);
             }
         }
         for byte in [0, 1, 2, b'A', b'C', 255] {
@@ -486,8 +445,10 @@ leaves in place: '\"L\"'";
         assert!(told.starts_with(&expected), "{arguments:?}: {told}");
         assert!(!told.chars().any(|c| c.is_control() && c != '\n'), "{told:?}");
     }
-    assert!(done(&folder, &["explain", "ad.bin", "\"AD\""]).starts_with("row 2: suffix 41 44 (AD)\n"));
-    assert!(done(&folder, &["explain", "ad.bin", "\"'s AD\""]).starts_with("row 6: suffix 27 73 20 41 44 ('s AD)\n"));
+    assert!(folder.done_with(&["explain", "ad.bin", "\"AD\""]).starts_with("row 2: suffix 41 44 (AD)\n"));
+    assert!(folder
+        .done_with(&["explain", "ad.bin", "\"'s AD\""])
+        .starts_with("row 6: suffix 27 73 20 41 44 ('s AD)\n"));
 }
 
 /// A set from standard input, and what is said of one.

@@ -89,8 +89,13 @@ impl Folder {
 
     /// What a run that must succeed prints.
     pub fn done(&self, arguments: &str) -> String {
-        let (status, out, told) = self.run(arguments);
-        assert_eq!((status, told.as_str()), (0, ""), "{arguments}");
+        self.done_with(&arguments.split_whitespace().collect::<Vec<_>>())
+    }
+
+    /// The same for arguments that may hold anything.
+    pub fn done_with(&self, arguments: &[&str]) -> String {
+        let (status, out, told) = self.run_with(arguments);
+        assert_eq!((status, told.as_str()), (0, ""), "{arguments:?}");
         out
     }
 
