@@ -45,6 +45,14 @@ fn padded(k: usize, len: u8, b: u8) -> u8 {
     if k <= len as usize { b } else { 0 }
 }
 
+// Writes the energy of record i, low byte first.
+fn put_energy(set: &mut [u8; SPACE], i: usize, a: u8, b: u8, c: u8, d: u8) {
+    put(set, place(i, 16), a);
+    put(set, place(i, 17), b);
+    put(set, place(i, 18), c);
+    put(set, place(i, 19), d);
+}
+
 // Writes record i: a keyword of len bytes that rise by step from first, and the largest energy.
 fn record(set: &mut [u8; SPACE], i: usize, len: u8, first: u8, step: u8) {
     put(set, place(i, 0), len);
@@ -55,8 +63,7 @@ fn record(set: &mut [u8; SPACE], i: usize, len: u8, first: u8, step: u8) {
         b = after(b, step);
         k += 1;
     }
-    put(set, place(i, 16), 255);
-    put(set, place(i, 17), 255);
+    put_energy(set, i, 255, 255, 255, 255);
 }
 
 // Records of keywords whose lengths go on by grow from len and whose first bytes go on by rise from first.
@@ -156,10 +163,12 @@ fn case(name: &[u8], set: &[u8; SPACE], n: usize) {
 fn sizes() {
     let set = family(1, 0, 0, 1, 0);
     case(b"no bytes", &set, 0);
-    case(b"17 bytes", &set, RECORD - 1);
-    case(b"19 bytes", &set, RECORD + 1);
+    case(b"19 bytes", &set, RECORD - 1);
+    case(b"21 bytes", &set, RECORD + 1);
     case(b"1 record", &set, RECORD);
+    case(b"1279 bytes", &set, 64 * RECORD - 1);
     case(b"64 records", &set, 64 * RECORD);
+    case(b"1281 bytes", &set, 64 * RECORD + 1);
     case(b"65 records", &set, 65 * RECORD);
     case(b"65 records and a byte", &set, 65 * RECORD + 1);
 }
@@ -194,8 +203,7 @@ fn paddings() {
     put(&mut only, place(0, 15), 1);
     case(b"its padding byte", &only, RECORD);
     let mut figure = family(1, 0, 0, 1, 0);
-    put(&mut figure, place(0, 16), 1);
-    put(&mut figure, place(0, 17), 2);
+    put_energy(&mut figure, 0, 1, 2, 3, 4);
     case(b"energy is no padding", &figure, RECORD);
 }
 
@@ -217,7 +225,7 @@ fn repeats() {
     put(&mut far, place(63, 1), 0);
     case(b"record 63 as record 0", &far, 64 * RECORD);
     put(&mut far, place(63, 1), 62);
-    put(&mut far, place(63, 16), 0);
+    put(&mut far, place(63, 19), 0);
     case(b"record 63 as record 62, another energy", &far, 64 * RECORD);
 }
 
@@ -225,7 +233,7 @@ fn repeats() {
 fn several() {
     let mut empty = family(1, 0, 0, 1, 0);
     put(&mut empty, place(0, 0), 0);
-    case(b"length 0 in 17 bytes", &empty, RECORD - 1);
+    case(b"length 0 in 19 bytes", &empty, RECORD - 1);
     case(b"length 0 in 65 records", &empty, 65 * RECORD);
     put(&mut empty, place(0, 15), 1);
     case(b"length 0 and padding", &empty, RECORD);
@@ -266,8 +274,7 @@ fn rows() {
 // Document 01's set W: LM, ALM and LMLA.
 fn bench() {
     let mut set = family(2, 1, 76, 0, 1);
-    put(&mut set, place(0, 16), 40);
-    put(&mut set, place(0, 17), 0);
+    put_energy(&mut set, 0, 40, 0, 0, 0);
     put(&mut set, place(1, 1), 65);
     put(&mut set, place(1, 2), 76);
     put(&mut set, place(1, 3), 77);

@@ -102,7 +102,7 @@ Z = 90
 
 -- a keyword's record
 unfoldable pub keywordRecord : List ℕ → ℕ → List ℕ
-keywordRecord word energy = named word ++ lowFirst 2 energy
+keywordRecord word energy = named word ++ lowFirst 4 energy
 
 -- The sets of the examples. Document 01 names no energy for AA, AB and BA.
 unfoldable pub W : List ℕ

@@ -9,7 +9,7 @@ use lib.Seq.{getD-take, getD-drop}
 use Rattle.rules.specs.sets.Limits.{recordSize}
 use Rattle.rules.specs.sets.Sets.{keywordOf}
 use Rattle.rules.specs.Beside.{recordAt, keywordAt}
-use Rattle.sets.specs.Reading.{Stated}
+use Rattle.sets.specs.Reading.{Stated, halfAt}
 
 module _ (s : List ℕ) (i : ℕ) (whole : recordSize * i + recordSize ≤ length s) where
   pub record-length : length (recordAt s i) ≡ recordSize
@@ -20,9 +20,15 @@ module _ (s : List ℕ) (i : ℕ) (whole : recordSize * i + recordSize ≤ lengt
   unfolding recordAt
   record-at k h = getD-take recordSize (drop (recordSize * i) s) k 0 h ∙ getD-drop (recordSize * i) s k 0
 
-  pub energy-at : keywordAt s i .energy ≡ getD s (recordSize * i + 16) 0 + 256 * getD s (recordSize * i + 17) 0
+  half-at : (k : ℕ) → k + 1 < recordSize
+      → halfAt s (recordSize * i + k) ≡ getD (recordAt s i) k 0 + 256 * getD (recordAt s i) (k + 1) 0
+  half-at k h =
+      let next : recordSize * i + (k + 1) ≡ recordSize * i + k + 1 = omega arith in
+      omega (arith, record-at k (omega arith), rw next at (record-at (k + 1) h))
+
+  pub energy-at : keywordAt s i .energy ≡ halfAt s (recordSize * i + 16) + 65536 * halfAt s (recordSize * i + 18)
   unfolding keywordAt keywordOf
-  energy-at = rw (record-at 16 (omega arith), record-at 17 (omega arith))
+  energy-at = omega (arith, half-at 16 (omega arith), half-at 18 (omega arith))
 
   pub length-at : getD (recordAt s i) 0 0 ≡ getD s (recordSize * i) 0
   length-at = record-at 0 (omega arith) ∙ ap (λ (m : ℕ). getD s m 0) (add-zero (recordSize * i))

@@ -25,6 +25,10 @@ pub record Stated (s : List ℕ) (i n : ℕ) : Type 0 where
 unfoldable pub paddingFault : List ℕ → ℕ → ℕ → Bool
 paddingFault s i n = any (λ b. not (eqb b 0)) (take (longestWord - n) (drop (1 + n) (recordAt s i)))
 
+-- the number that the two bytes of the set s from place k on state, the low byte first
+abbrev pub halfAt : List ℕ → ℕ → ℕ
+halfAt s k = getD s k 0 + 256 * getD s (k + 1) 0
+
 -- before record i is read: it is whole, those before it passed, and their keywords stand at the front of the list
 pub record Reading (s : List ℕ) (i : ℕ) (l : List ℕ) : Type 0 where
   pub whole : recordSize * i + recordSize ≤ length s

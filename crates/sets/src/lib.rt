@@ -14,10 +14,10 @@ ghost use lib.ListN.{length, getD};
 ghost use Rattle.rules.specs.sets.Limits.{recordSize, mostKeywords, longestWord};
 ghost use Rattle.rules.specs.Beside.{keywordAt};
 ghost use Rattle.words.specs.Items.{itemSize, wordOf};
-ghost use Rattle.sets.specs.Reading.{Stated, paddingFault, Reading, RecordRead, Read};
+ghost use Rattle.sets.specs.Reading.{Stated, paddingFault, halfAt, Reading, RecordRead, Read};
 
 // The bytes of a record.
-pub const RECORD: usize = 18;
+pub const RECORD: usize = 20;
 
 // A byte as a number to count with.
 fn wide(b: u8) -> usize
@@ -49,14 +49,22 @@ fn unpadded(set: &[u8], i: usize, n: usize) -> bool
     false
 }
 
-// The energy that record i states, low byte first.
+// The number that two bytes of the set state from a place on, low byte first.
+fn half(set: &[u8], at: usize) -> usize
+    requires { ⌜ at + 2 ≤ length (now set) ⌝ }
+    ensures { λ r. ⌜ (r ≡ halfAt (now (set .entry)) at) × (r < 65536) ⌝ }
+{
+    wide(set[at]) + 256 * wide(set[at + 1])
+}
+
+// The energy that record i states, low half first.
 fn energy(set: &[u8], i: usize) -> u32
     requires { ⌜ recordSize * i + recordSize ≤ length (now set) ⌝ }
     ensures { λ r. ⌜ r ≡ keywordAt (now (set .entry)) i .energy ⌝ }
 {
-    let low = wide(set[RECORD * i + 16]);
-    let high = wide(set[RECORD * i + 17]);
-    (low + 256 * high) as u32
+    let low = half(set, RECORD * i + 16);
+    let high = half(set, RECORD * i + 18);
+    (low + 65536 * high) as u32
 }
 
 // Keyword i, whose length is n.

@@ -40,17 +40,8 @@ loop-less c = omega arith
 loop-again : tie.Need-loop-again Inv-loop μ-loop
 loop-again c = omega arith
 
-place-requires-3 : tie.Need-place-requires-3 Inv-loop μ-loop
-place-requires-3 c κs = tt
-
-put-requires-3 : tie.Need-put-requires-3 Inv-loop μ-loop
-put-requires-3 c κs = tt
-
-place-requires-4 : tie.Need-place-requires-4 Inv-loop μ-loop
-place-requires-4 c κs = tt
-
-put-requires-4 : tie.Need-put-requires-4 Inv-loop μ-loop
-put-requires-4 c κs = tt
+put-energy-requires : tie.Need-put-energy-requires Inv-loop μ-loop
+put-energy-requires c κs = tt
 
 returns : tie.Need-returns Inv-loop μ-loop
 returns c = tt
@@ -71,8 +62,5 @@ record-spec =
     add-k
     loop-less
     loop-again
-    place-requires-3
-    put-requires-3
-    place-requires-4
-    put-requires-4
+    put-energy-requires
     returns)

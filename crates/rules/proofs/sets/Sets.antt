@@ -256,7 +256,11 @@ file-sound s small v =
       distinct = apart (length s / recordSize) 0 [] s (p .records) .0;
       numbered = rising 0 (length s / recordSize) s .0;
       slots = keywords-each _ s (λ i h. omega (arith, p .few));
-      figures = keywords-each _ s (λ i h. omega (arith, below-getD (recordAt s i) 16 (smallAt i), below-getD (recordAt s i) 17 (smallAt i)));
+      figures =
+          keywords-each _ s
+          (λ i h.
+          let below : (k : ℕ) → getD (recordAt s i) k 0 < opcodes = λ k. below-getD (recordAt s i) k (smallAt i) in
+          omega (arith, below 16, below 17, below 18, below 19));
     }
   where
     p : FilePassed s

@@ -4,14 +4,14 @@ use Prim.Native.Nat.{ℕ}
 
 -- bytes of a keyword record, and of them the most for the keyword
 abbrev pub recordSize : ℕ
-recordSize = 18
+recordSize = 20
 
 abbrev pub longestWord : ℕ
 longestWord = 15
 
 -- the most energy of a keyword
 abbrev pub mostEnergy : ℕ
-mostEnergy = 65535
+mostEnergy = 4294967295
 
 -- the most keywords of a set
 abbrev pub mostKeywords : ℕ

@@ -18,7 +18,7 @@ keywordOf i r =
     record {
       number = i;
       word = take (getD r 0 0) (drop 1 r);
-      energy = getD r 16 0 + 256 * getD r 17 0;
+      energy = getD r 16 0 + 256 * getD r 17 0 + 65536 * getD r 18 0 + 16777216 * getD r 19 0;
     }
 
 -- the first n keywords of a set, numbered from i
