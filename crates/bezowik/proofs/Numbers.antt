@@ -10,7 +10,7 @@ use Rattle.rules.specs.scans.Hits.{over}
 use Rattle.rules.specs.answers.Answers.{Told, answerBytes}
 use Rattle.rules.specs.answers.Promises.{Forward, Backward, Make, Check}
 use Rattle.rules.proofs.answers.Answers.{Fits, length-answerBytes, answerBytes-injective}
-use Rattle.rules.proofs.answers.Fits.{forward-fits, backward-fits, make-fits, check-fits}
+use Rattle.rules.proofs.answers.Fits.{within-fits, forward-within, backward-within, make-within, check-within}
 use Rattle.bezowik.specs.Calls.{Telling, ForwardCall, BackwardCall, MakeCall, CheckCall}
 
 -- the first twenty bytes are the answer's, and no other answer's
@@ -43,21 +43,21 @@ module _ (s : List ℕ) {answer : List ℕ} {r : ℕ} {answer′ : List ℕ} (ro
   pub make-numbers : {ws rowb byteb ws′ rowb′ byteb′ : List ℕ}
       → MakeCall s ws rowb byteb answer r ws′ rowb′ byteb′ answer′
       → Numbers (λ a. Make s ws rowb byteb a ws′ rowb′ byteb′) r answer′
-  make-numbers call = numbers _ (λ a promise. make-fits s promise) (call .called room)
+  make-numbers call = numbers _ (λ a promise. within-fits (make-within s promise)) (call .called room)
 
   pub check-numbers : {rowf bytef ws ws′ : List ℕ}
       → CheckCall s rowf bytef ws answer r ws′ answer′
       → Numbers (λ a. Check s rowf bytef ws a ws′) r answer′
-  check-numbers call = numbers _ (λ a promise. check-fits s promise) (call .called room)
+  check-numbers call = numbers _ (λ a promise. within-fits (check-within s promise)) (call .called room)
 
   -- a scan's counters have room for what bytes can say
   module _ (bytes : (i : ℕ) → getD s i 0 < opcodes) where
     pub forward-numbers : {t ws hs ws′ hs′ : List ℕ}
         → ForwardCall s t ws hs answer r ws′ hs′ answer′
         → Numbers (λ a. Forward s t ws hs a ws′ hs′) r answer′
-    forward-numbers call = numbers _ (λ a promise. forward-fits s bytes promise) (call .called room)
+    forward-numbers call = numbers _ (λ a promise. within-fits (forward-within s bytes promise)) (call .called room)
 
     pub backward-numbers : {t rowf bytef ws hs ws′ hs′ : List ℕ}
         → BackwardCall s t rowf bytef ws hs answer r ws′ hs′ answer′
         → Numbers (λ a. Backward s t rowf bytef ws hs a ws′ hs′) r answer′
-    backward-numbers call = numbers _ (λ a promise. backward-fits s bytes promise) (call .called room)
+    backward-numbers call = numbers _ (λ a promise. within-fits (backward-within s bytes promise)) (call .called room)

@@ -3,5 +3,7 @@ pub mod State
 pub mod Questions
 pub mod Dictionary
 pub mod Hits
+pub mod Totals
+pub mod Nested
 pub mod Buffers
 pub mod Audited

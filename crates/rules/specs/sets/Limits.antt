@@ -25,6 +25,15 @@ mostRows = 961
 abbrev pub longestTrace : ℕ
 longestTrace = 1048576
 
+-- the most hits of a trace, and the most energy of all of them: `hits-most` and `total-most` in
+-- proofs/scans/Totals.antt say that no set and trace have more, and `totals-reached` in proofs/scans/Nested.antt that
+-- some have as many
+abbrev pub mostHits : ℕ
+mostHits = 15728535
+
+abbrev pub mostTotal : ℕ
+mostTotal = 67553543423262825
+
 -- numbers of a row in the workspace
 abbrev pub rowCells : ℕ
 rowCells = 6
