@@ -34,19 +34,22 @@
  * holds the set's backward rows and nothing else has changed. A call that is not refused leaves its rows, forward or
  * backward, at the front of the workspace. What a buffer holds behind what was written stays.
  *
- * Stack: some 12 kB in bezowik_cost, for its own workspace, and less than 8 kB in the others. C99 or C++11.
+ * Stack: less than 16 kB in bezowik_cost, most of it its own workspace, and less than 8 kB in the others. C99 or C++11.
  *
- * Formats. A keyword set is records of 18 bytes: a length from 1 to 15, the keyword, zeros up to byte 15, and the
- * energy in picojoules in bytes 16 and 17, low byte first; 1 to 64 records, no two keywords the same.
- * bezowik_put_record packs one. A trace is 0 to 1,048,576 bytes. Keywords are numbered from 0 in file order. A
- * workspace has six numbers for each row of the set, at most BEZOWIK_WORKSPACE. Hits are pairs: the end (how many
- * trace bytes stand up to and including the keyword's last) and the keyword's number; by end, rising, and at one end
- * the longest keyword first. A hit buffer receives the first pairs that fit, and the answer counts them all.
+ * Formats. A keyword set is records of 20 bytes: a length from 1 to 15, the keyword, zeros up to byte 15, and the
+ * energy in four bytes, 16 to 19, low byte first: 0 to 4,294,967,295 picojoules; 1 to 64 records, no two keywords the
+ * same. bezowik_put_record packs one. Records of 18 bytes, with an energy in two, are of an earlier format: every set
+ * is read as records of 20. A trace is 0 to 1,048,576 bytes. Keywords are numbered from 0 in file order. A workspace
+ * has six numbers for each row of the set, at most BEZOWIK_WORKSPACE. Hits are pairs: the end (how many trace bytes
+ * stand up to and including the keyword's last) and the keyword's number; by end, rising, and at one end the longest
+ * keyword first. A hit buffer receives the first pairs that fit, and the answer counts them all.
  *
  * A longer trace is cut, anywhere behind its first 14 bytes, and scanned in parts of at most 1,048,576 bytes. The
  * count and energy of the whole are the sums over the parts, each later part begun 14 bytes (BEZOWIK_OVERLAP) before
- * the cut, less the cost of its first 14 bytes alone. Sum the counts in 64 bits. Of a later part's list, leave out the
- * hits that end within its first 14 bytes: the part before has them. The questions do not add up so.
+ * the cut, less the cost of its first 14 bytes alone. Sum both in 64 bits: they cannot overflow for a whole trace of
+ * at most 286,331,160 bytes; for a longer one the energy can, where the keywords' energies are large. Of a later
+ * part's list, leave out the hits that end within its first 14 bytes: the part before has them. The questions do not
+ * add up so.
  */
 #ifndef BEZOWIK_H
 #define BEZOWIK_H
@@ -62,7 +65,7 @@ extern "C" {
 enum bezowik_refusal {
     BEZOWIK_DONE = 0,               /* no refusal */
     BEZOWIK_SET_EMPTY = 1,          /* the set has no bytes */
-    BEZOWIK_SET_SIZE = 2,           /* the set is no multiple of 18 bytes */
+    BEZOWIK_SET_SIZE = 2,           /* the set is no multiple of 20 bytes */
     BEZOWIK_TOO_MANY_KEYWORDS = 3,  /* over 64 records */
     BEZOWIK_LENGTH = 4,             /* a length of 0 or over 15; place: the record */
     BEZOWIK_PADDING = 5,            /* padding that is not zero; place: the record */
@@ -100,7 +103,7 @@ enum bezowik_refusal {
 
 /* Bytes of a keyword's record, and the places in it: its length, its first byte, and the low byte of its energy,
  * which has the rest of the record. The most that this holds, in picojoules. */
-#define BEZOWIK_RECORD 18
+#define BEZOWIK_RECORD 20
 #define BEZOWIK_RECORD_LENGTH 0
 #define BEZOWIK_RECORD_WORD 1
 #define BEZOWIK_RECORD_ENERGY (BEZOWIK_RECORD_WORD + BEZOWIK_LONGEST)
@@ -161,7 +164,9 @@ uint16_t bezowik_check(const uint8_t *set, size_t set_bytes,
                        uint8_t *answer, size_t answer_bytes);
 
 /* The fields of an answer: number and place of a refusal, and the count, questions and energy of a scan (0 on a
- * refusal). */
+ * refusal). None of them can overflow. The largest count is 15,728,535, which is 15 hits at each of 1,048,576 ends but
+ * fewer at the first 14, and the largest energy is 67,553,543,423,262,825 picojoules, which is that many times
+ * BEZOWIK_MOST_ENERGY. */
 static inline uint16_t bezowik_number(const uint8_t *answer)
 {
     return (uint16_t)(answer[0] | answer[1] << 8);
@@ -230,7 +235,8 @@ static inline const char *bezowik_message(unsigned number)
     case BEZOWIK_SET_EMPTY:
         return "the set has no bytes: give at least one record of " BEZOWIK_TEXT(BEZOWIK_RECORD) " bytes";
     case BEZOWIK_SET_SIZE:
-        return "the set is no multiple of " BEZOWIK_TEXT(BEZOWIK_RECORD) " bytes: it is cut short or is no keyword set";
+        return "the set is no multiple of " BEZOWIK_TEXT(BEZOWIK_RECORD) " bytes: "
+               "it is cut short, has the earlier records of 18 bytes, or is no keyword set";
     case BEZOWIK_TOO_MANY_KEYWORDS:
         return "the set has over " BEZOWIK_TEXT(BEZOWIK_KEYWORDS) " records: split it";
     case BEZOWIK_LENGTH:

@@ -18,6 +18,14 @@ typedef char overlap_is_one_less_than_the_longest[BEZOWIK_OVERLAP == BEZOWIK_LON
 typedef char rows_are_one_for_each_byte_and_row_0[BEZOWIK_ROWS == BEZOWIK_KEYWORDS * BEZOWIK_LONGEST + 1 ? 1 : -1];
 typedef char byte_file_has_every_byte_and_depth[BEZOWIK_BYTES == 256 * (BEZOWIK_LONGEST + 1) ? 1 : -1];
 typedef char row_is_length_suffix_inner_and_edge[BEZOWIK_ROW == 1 + BEZOWIK_LONGEST + 2 ? 1 : -1];
+typedef char record_is_length_keyword_and_energy[BEZOWIK_RECORD == 1 + BEZOWIK_LONGEST + 4 ? 1 : -1];
+typedef char most_energy_is_four_bytes[BEZOWIK_MOST_ENERGY == 4294967295u ? 1 : -1];
+
+/* The most hits of a trace of so many bytes, 14 or more, and whether 64 bits hold their energy, each with the most. */
+#define MOST_HITS(bytes) (15ull * (bytes) - 105)
+#define HELD(bytes) (MOST_HITS(bytes) <= UINT64_MAX / BEZOWIK_MOST_ENERGY)
+typedef char most_hits_are_as_the_header_says[MOST_HITS(BEZOWIK_TRACE) == 15728535 ? 1 : -1];
+typedef char parts_add_up_as_far_as_the_header_says[HELD(286331160) && !HELD(286331161) ? 1 : -1];
 
 static int failures;
 
@@ -33,15 +41,20 @@ static void checked(int holds, const char *what, int line)
         printf("header: line %d: %s\n", line, what);
 }
 
-/* Numbers that look random and are the same in every run (xorshift64*). */
+/* Numbers that look random and are the same in every run (xorshift64*): any, and those below n. */
 static uint64_t state = 1;
 
-static size_t below(size_t n)
+static uint64_t number(void)
 {
     state ^= state >> 12;
     state ^= state << 25;
     state ^= state >> 27;
-    return (size_t)((state * 0x2545F4914F6CDD1Dull) >> 33) % n;
+    return state * 0x2545F4914F6CDD1Dull;
+}
+
+static size_t below(size_t n)
+{
+    return (size_t)(number() >> 33) % n;
 }
 
 /* Room for a set of one record too many, and for a trace that has to be cut. */
@@ -59,20 +72,25 @@ static void put_long_word(size_t i)
     CHECK(bezowik_put_record(set + BEZOWIK_RECORD * i, word, BEZOWIK_LONGEST, i) == BEZOWIK_DONE);
 }
 
-/* The result of the host call on the first records of the set and the first bytes of the trace. */
-static unsigned result_of(size_t records, size_t bytes)
+/* The result of the host call on the first bytes of the set and of the trace, or on the first records of the set. */
+static unsigned result_of_bytes(size_t set_bytes, size_t trace_bytes)
 {
     uint8_t answer[BEZOWIK_ANSWER];
 
-    return bezowik_cost(set, BEZOWIK_RECORD * records, trace, bytes, answer, sizeof answer);
+    return bezowik_cost(set, set_bytes, trace, trace_bytes, answer, sizeof answer);
+}
+
+static unsigned result_of(size_t records, size_t trace_bytes)
+{
+    return result_of_bytes(BEZOWIK_RECORD * records, trace_bytes);
 }
 
 /* A record's bytes, and that nothing is written where there is no record to write. */
 static void put_record(void)
 {
     static const uint8_t lm[BEZOWIK_RECORD] = {2, 'L', 'M', 0, 0, 0, 0, 0, 0, 0, 0, 0, 0, 0, 0, 0, 40};
-    static const uint8_t fifteen[BEZOWIK_RECORD] = {15,  'A', 'B', 'C', 'D', 'E', 'F', 'G', 'H',
-                                                    'I', 'J', 'K', 'L', 'M', 'N', 'O', 0x34, 0x12};
+    static const uint8_t fifteen[BEZOWIK_RECORD] = {15,  'A', 'B', 'C', 'D', 'E', 'F',  'G',  'H',  'I',
+                                                    'J', 'K', 'L', 'M', 'N', 'O', 0x78, 0x56, 0x34, 0x12};
     static const uint8_t letters[] = "ABCDEFGHIJKLMNOP";
     static const uint8_t other[] = "LM";
     uint8_t record[BEZOWIK_RECORD + 1], before[BEZOWIK_RECORD + 1], answer[BEZOWIK_ANSWER];
@@ -89,18 +107,21 @@ static void put_record(void)
     CHECK(bezowik_count(answer) == 2 && bezowik_energy(answer) == 80);
 
     memcpy(record, before, sizeof record);
-    CHECK(bezowik_put_record(record, letters, 15, 0x1234) == BEZOWIK_DONE);
+    CHECK(bezowik_put_record(record, letters, 15, 0x12345678) == BEZOWIK_DONE);
     CHECK(memcmp(record, fifteen, BEZOWIK_RECORD) == 0);
     CHECK(record[BEZOWIK_RECORD] == 0xEE);
     CHECK(bezowik_cost(record, BEZOWIK_RECORD, letters, 16, answer, sizeof answer) == BEZOWIK_DONE);
-    CHECK(bezowik_count(answer) == 1 && bezowik_energy(answer) == 0x1234);
+    CHECK(bezowik_count(answer) == 1 && bezowik_energy(answer) == 0x12345678);
 
     /* the most energy, which the library reads as it was given, and one more */
-    CHECK(bezowik_put_record(record, other, 2, BEZOWIK_MOST_ENERGY) == BEZOWIK_DONE);
-    CHECK(bezowik_cost(record, BEZOWIK_RECORD, other, 2, answer, sizeof answer) == BEZOWIK_DONE);
-    CHECK(bezowik_energy(answer) == BEZOWIK_MOST_ENERGY);
     memcpy(record, before, sizeof record);
-    CHECK(bezowik_put_record(record, other, 2, BEZOWIK_MOST_ENERGY + 1) == BEZOWIK_ENERGY_TOO_LARGE);
+    CHECK(bezowik_put_record(record, other, 2, 4294967295u) == BEZOWIK_DONE);
+    CHECK(record[16] == 255 && record[17] == 255 && record[18] == 255 && record[19] == 255);
+    CHECK(record[BEZOWIK_RECORD] == 0xEE);
+    CHECK(bezowik_cost(record, BEZOWIK_RECORD, other, 2, answer, sizeof answer) == BEZOWIK_DONE);
+    CHECK(bezowik_energy(answer) == 4294967295u);
+    memcpy(record, before, sizeof record);
+    CHECK(bezowik_put_record(record, other, 2, 4294967296ull) == BEZOWIK_ENERGY_TOO_LARGE);
     CHECK(bezowik_put_record(record, other, 2, UINT64_MAX) == BEZOWIK_ENERGY_TOO_LARGE);
     CHECK(bezowik_put_record(record, NULL, 0, 40) == BEZOWIK_LENGTH);
     CHECK(bezowik_put_record(record, letters, 16, 40) == BEZOWIK_LENGTH);
@@ -108,6 +129,23 @@ static void put_record(void)
     CHECK(bezowik_put_record(record, letters, 16, UINT64_MAX) == BEZOWIK_LENGTH);
     CHECK(memcmp(record, before, sizeof record) == 0);
     CHECK(BEZOWIK_ENERGY_TOO_LARGE < 0);
+}
+
+/* Each of the four bytes of an energy alone, as it is packed and as the library reads it: the low byte is the first. */
+static void energy_bytes(void)
+{
+    uint8_t record[BEZOWIK_RECORD], answer[BEZOWIK_ANSWER];
+    uint64_t energy = 1;
+    size_t at, i;
+
+    for (at = 16; at < 20; at++) {
+        CHECK(bezowik_put_record(record, (const uint8_t *)"A", 1, energy) == BEZOWIK_DONE);
+        for (i = 16; i < 20; i++)
+            CHECK(record[i] == (i == at));
+        CHECK(bezowik_cost(record, sizeof record, (const uint8_t *)"A", 1, answer, sizeof answer) == BEZOWIK_DONE);
+        CHECK(bezowik_energy(answer) == energy);
+        energy *= 256;
+    }
 }
 
 /* Every refusal has a sentence of its own, and all numbers that none has share one: 7, which is not given any more, and
@@ -126,7 +164,7 @@ static void messages(void)
     CHECK(strcmp(bezowik_message(18), bezowik_message(65535)) == 0);
     CHECK(strlen(bezowik_message((unsigned)BEZOWIK_ENERGY_TOO_LARGE)) > 10);
     CHECK(strcmp(bezowik_message(UINT_MAX), bezowik_message(18)) != 0);
-    CHECK(strstr(bezowik_message(BEZOWIK_SET_SIZE), " " BEZOWIK_TEXT(BEZOWIK_RECORD) " bytes") != NULL);
+    CHECK(strstr(bezowik_message(BEZOWIK_SET_SIZE), " 20 bytes") != NULL);
     CHECK(strstr(bezowik_message(BEZOWIK_TRACE_TOO_LONG), " 1048576 bytes") != NULL);
     CHECK(strstr(bezowik_message(BEZOWIK_TRACE_TOO_LONG), " 14 bytes before the cut") != NULL);
 }
@@ -141,6 +179,10 @@ static void limits(void)
     CHECK(result_of(BEZOWIK_KEYWORDS, BEZOWIK_TRACE) == BEZOWIK_DONE);
     CHECK(result_of(BEZOWIK_KEYWORDS, BEZOWIK_TRACE + 1) == BEZOWIK_TRACE_TOO_LONG);
     CHECK(result_of(BEZOWIK_KEYWORDS + 1, 0) == BEZOWIK_TOO_MANY_KEYWORDS);
+    CHECK(result_of_bytes(64 * 20, 0) == BEZOWIK_DONE);
+    CHECK(result_of_bytes(65 * 20, 0) == BEZOWIK_TOO_MANY_KEYWORDS);
+    CHECK(result_of_bytes(1279, 0) == BEZOWIK_SET_SIZE);
+    CHECK(result_of_bytes(1281, 0) == BEZOWIK_SET_SIZE);
     CHECK(result_of(0, 0) == BEZOWIK_SET_EMPTY);
     CHECK(result_of(1, 0) == BEZOWIK_DONE);
     set[BEZOWIK_RECORD_LENGTH] = BEZOWIK_LONGEST + 1;
@@ -216,20 +258,80 @@ struct cost {
     uint64_t count, energy;
 };
 
-static struct cost cost_of(size_t records, size_t from, size_t to)
+/* The cost that an answer tells. */
+static struct cost told_by(const uint8_t *answer)
 {
-    uint8_t answer[BEZOWIK_ANSWER];
     struct cost cost;
 
-    CHECK(bezowik_cost(set, BEZOWIK_RECORD * records, trace + from, to - from, answer, sizeof answer) == BEZOWIK_DONE);
     cost.count = bezowik_count(answer);
     cost.energy = bezowik_energy(answer);
     return cost;
 }
 
+/* What the host call tells of a part of the trace. */
+static struct cost cost_of(size_t records, size_t from, size_t to)
+{
+    uint8_t answer[BEZOWIK_ANSWER];
+
+    CHECK(bezowik_cost(set, BEZOWIK_RECORD * records, trace + from, to - from, answer, sizeof answer) == BEZOWIK_DONE);
+    return told_by(answer);
+}
+
 static int same(struct cost a, struct cost b)
 {
     return a.count == b.count && a.energy == b.energy;
+}
+
+/* As keywords the first repetitions of one letter, the energy of each lower by step than that of the one before, the
+ * first with the most; as trace so many bytes of that letter. The result is its cost, known without a scan. */
+static struct cost put_repetitions(size_t records, size_t trace_bytes, uint64_t step)
+{
+    uint8_t word[BEZOWIK_LONGEST];
+    uint64_t energy = BEZOWIK_MOST_ENERGY, ends = trace_bytes;
+    struct cost known;
+    size_t n;
+
+    memset(word, 'A', sizeof word);
+    memset(trace, 'A', trace_bytes);
+    known.count = known.energy = 0;
+    for (n = 1; n <= records; n++) {
+        CHECK(bezowik_put_record(set + BEZOWIK_RECORD * (n - 1), word, n, energy) == BEZOWIK_DONE);
+        known.count += ends;
+        known.energy += energy * ends;
+        energy -= step;
+        ends--;
+    }
+    return known;
+}
+
+/* Both scans and the host call tell this cost of the longest trace of one letter, under its first repetitions as
+ * keywords, each with the most energy. */
+static void told_by_all(size_t records, uint64_t count, uint64_t energy)
+{
+    static uint16_t workspace[BEZOWIK_WORKSPACE];
+    static uint8_t rows[BEZOWIK_ROW * BEZOWIK_ROWS], bytes[BEZOWIK_BYTES];
+    const size_t all = BEZOWIK_RECORD * records, w = BEZOWIK_WORKSPACE;
+    struct cost known = put_repetitions(records, BEZOWIK_TRACE, 0);
+    uint8_t answer[BEZOWIK_ANSWER];
+    size_t row_bytes;
+
+    CHECK(known.count == count && known.energy == energy);
+    CHECK(same(cost_of(records, 0, BEZOWIK_TRACE), known));
+    CHECK(bezowik_forward(set, all, trace, BEZOWIK_TRACE, workspace, w, NULL, 0, answer, sizeof answer) == BEZOWIK_DONE);
+    CHECK(same(told_by(answer), known));
+    CHECK(bezowik_make(set, all, workspace, w, rows, sizeof rows, bytes, sizeof bytes, answer, sizeof answer)
+          == BEZOWIK_DONE);
+    row_bytes = BEZOWIK_ROW * bezowik_count(answer);
+    CHECK(bezowik_backward(set, all, trace, BEZOWIK_TRACE, rows, row_bytes, bytes, sizeof bytes, workspace, w, NULL, 0,
+                           answer, sizeof answer) == BEZOWIK_DONE);
+    CHECK(same(told_by(answer), known));
+}
+
+/* A hit of one keyword with the most energy at every end, and the most hits that can occur, each with the most. */
+static void largest_figures(void)
+{
+    told_by_all(1, 1048576, 4503599626321920ull);
+    told_by_all(BEZOWIK_LONGEST, 15728535, 67553543423262825ull);
 }
 
 /* The cost of the trace's first bytes by the header's rule, in parts of the longest length, or, where random is not 0, of
@@ -268,7 +370,7 @@ static size_t random_set(void)
         for (i = 0; i < n; i++)
             word[i] = (uint8_t)below(letters);
         record = set + BEZOWIK_RECORD * records;
-        CHECK(bezowik_put_record(record, word, n, below(65536)) == BEZOWIK_DONE);
+        CHECK(bezowik_put_record(record, word, n, number() & BEZOWIK_MOST_ENERGY) == BEZOWIK_DONE);
         for (i = 0; i < records; i++)
             if (memcmp(set + BEZOWIK_RECORD * i, record, BEZOWIK_RECORD_ENERGY) == 0)
                 break;
@@ -320,8 +422,7 @@ static void long_traces(void)
 {
     const size_t bytes = 2 * BEZOWIK_TRACE - 77;
     struct cost known;
-    uint8_t word[BEZOWIK_LONGEST];
-    size_t records, n;
+    size_t records;
 
     state = 12345;
     do
@@ -332,14 +433,7 @@ static void long_traces(void)
     CHECK(same(cost_in_parts(records, bytes, BEZOWIK_TRACE, 0, BEZOWIK_OVERLAP),
                cost_in_parts(records, bytes, BEZOWIK_TRACE / 3, 1, BEZOWIK_OVERLAP)));
 
-    memset(word, 'A', sizeof word);
-    memset(trace, 'A', bytes);
-    known.count = known.energy = 0;
-    for (n = 1; n <= BEZOWIK_LONGEST; n++) {
-        CHECK(bezowik_put_record(set + BEZOWIK_RECORD * (n - 1), word, n, 1000 + n) == BEZOWIK_DONE);
-        known.count += bytes - n + 1;
-        known.energy += (1000 + n) * (bytes - n + 1);
-    }
+    known = put_repetitions(BEZOWIK_LONGEST, bytes, 1000);
     CHECK(result_of(BEZOWIK_LONGEST, bytes) == BEZOWIK_TRACE_TOO_LONG);
     CHECK(same(cost_in_parts(BEZOWIK_LONGEST, bytes, BEZOWIK_TRACE, 0, BEZOWIK_OVERLAP), known));
     CHECK(same(cost_in_parts(BEZOWIK_LONGEST, bytes, BEZOWIK_TRACE / 3, 1, BEZOWIK_OVERLAP), known));
@@ -353,9 +447,11 @@ int main(int argc, char **argv)
     }
     CHECK(strcmp(BEZOWIK_VERSION, argv[1]) == 0);
     put_record();
+    energy_bytes();
     messages();
     limits();
     buffers();
+    largest_figures();
     cut_traces();
     long_traces();
     return failures != 0;

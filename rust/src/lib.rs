@@ -9,7 +9,7 @@ pub mod slow;
 pub const TRACE: usize = 1_048_576;
 pub const KEYWORDS: usize = 64;
 pub const LONGEST: usize = 15;
-pub const ENERGY: u64 = 65_535;
+pub const ENERGY: u64 = 4_294_967_295;
 
 /// The bytes by which a part of a longer trace reaches back behind the cut: a keyword that the cut divides stands whole in the later part.
 pub const OVERLAP: usize = LONGEST - 1;
@@ -19,11 +19,17 @@ pub const OVERLAP: usize = LONGEST - 1;
 pub const ANSWER: usize = 20;
 pub const ROWS: usize = 961;
 pub const WORKSPACE: usize = 6 * ROWS;
-pub const RECORD: usize = 18;
+pub const RECORD: usize = 20;
 pub const ROW: usize = 18;
 pub const BYTES: usize = 4096;
 
-/// What a call answers, in document 01's numbers. Number 0 is no refusal.
+/// The number that some bytes hold, low byte first.
+fn low_first(bytes: &[u8]) -> u64 {
+    bytes.iter().rev().fold(0, |sum, &b| sum << 8 | u64::from(b))
+}
+
+/// What a call answers, in document 01's numbers. Number 0 is no refusal. The largest count is 15 * TRACE - 105, since fewer than 15 keywords end at
+/// each of the first 14 ends, and the largest energy is ENERGY times that: neither can overflow.
 #[derive(Clone, Copy, Debug, Default, PartialEq, Eq)]
 pub struct Answer {
     pub number: u16,
@@ -40,7 +46,7 @@ impl Answer {
 
     /// The answer that stands in the first twenty bytes of a buffer.
     pub fn from_bytes(bytes: &[u8]) -> Answer {
-        let low = |from: usize, width: usize| bytes[from..from + width].iter().rev().fold(0u64, |sum, &b| sum << 8 | u64::from(b));
+        let low = |from: usize, width: usize| low_first(&bytes[from..from + width]);
         Answer { number: low(0, 2) as u16, place: low(2, 2) as u16, count: low(4, 4) as u32, questions: low(8, 4) as u32, energy: low(12, 8) }
     }
 

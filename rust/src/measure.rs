@@ -54,7 +54,7 @@ pub fn words(random: &mut Random, shortest: usize) -> Vec<Vec<u8>> {
 /// The set file of some keywords, with the energy of each.
 pub fn set_file(words: &[Vec<u8>]) -> (Vec<u8>, Vec<u64>) {
     let energies: Vec<u64> = (0..words.len() as u64).map(|i| 10 + 7 * i).collect();
-    (words.iter().zip(&energies).flat_map(|(w, &e)| sets::record(w, e as u16)).collect(), energies)
+    (words.iter().zip(&energies).flat_map(|(w, &e)| sets::record(w, e as u32)).collect(), energies)
 }
 
 /// Nanoseconds of one call: the least of several runs, each of enough calls to be seen.

@@ -1,5 +1,7 @@
 //! A keyword, and its record in a set.
 
+use crate::low_first;
+
 /// A keyword as its record states it.
 #[derive(Clone, Debug, PartialEq, Eq)]
 pub struct Keyword {
@@ -8,7 +10,7 @@ pub struct Keyword {
 }
 
 /// A keyword's record.
-pub fn record(word: &[u8], energy: u16) -> Vec<u8> {
+pub fn record(word: &[u8], energy: u32) -> Vec<u8> {
     let mut bytes = vec![word.len() as u8];
     bytes.extend_from_slice(word);
     bytes.resize(16, 0);
@@ -18,6 +20,5 @@ pub fn record(word: &[u8], energy: u16) -> Vec<u8> {
 
 /// The keyword of a record that has passed its tests.
 pub fn keyword(record: &[u8]) -> Keyword {
-    let energy = u64::from(u16::from_le_bytes([record[16], record[17]]));
-    Keyword { word: record[1..1 + usize::from(record[0])].to_vec(), energy }
+    Keyword { word: record[1..1 + usize::from(record[0])].to_vec(), energy: low_first(&record[16..20]) }
 }

@@ -1,7 +1,7 @@
 //! The slow count: each job as document 01 words it, with neither failures nor skips to be quick by. What the library answers is compared with it.
 
 use crate::sets::Keyword;
-use crate::{Answer, Table, BYTES, RECORD, ROW};
+use crate::{low_first, Answer, Table, BYTES, RECORD, ROW};
 
 /// The way a keyword is read.
 #[derive(Clone, Copy, Debug, PartialEq, Eq)]
@@ -34,7 +34,7 @@ pub fn keywords(set: &[u8]) -> Result<Vec<Keyword>, Answer> {
         if keywords.iter().any(|k| k.word == word) {
             return Err(Answer::refused(6, i));
         }
-        keywords.push(Keyword { word, energy: u64::from(record[16]) + 256 * u64::from(record[17]) });
+        keywords.push(Keyword { word, energy: low_first(&record[16..20]) });
     }
     Ok(keywords)
 }

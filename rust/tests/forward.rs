@@ -1,10 +1,11 @@
-//! The forward scan and the host call, compared with the slow count on many inputs: every buffer and every refusal that they have.
+//! The forward scan and the host call, compared with the slow count on many inputs: every buffer and every refusal that they have. The largest
+//! figures by the backward scan too.
 
 mod common;
 
 use bezowik::measure::{set_file, words};
 use bezowik::random::Random;
-use bezowik::sets::record;
+use bezowik::sets::{keyword, record};
 use bezowik::slow;
 use bezowik::{Answer, OVERLAP, WORKSPACE};
 use common::{bench_set, damaged_set, random_set, random_trace, BENCH_TRACE};
@@ -66,22 +67,48 @@ fn limits() {
     let mut sixteen = fifteen.clone();
     sixteen[0] = 16;
     assert_eq!(bezowik::cost(&sixteen, b""), Answer::refused(4, 0));
-    let many: Vec<u8> = (0..64).flat_map(|i| record(&[i, 1], 1)).collect();
-    assert_eq!(bezowik::cost(&many, b"").number, 0);
     let more: Vec<u8> = (0..65).flat_map(|i| record(&[i, 1], 1)).collect();
-    assert_eq!(bezowik::cost(&more, b""), Answer::refused(3, 0));
-    let longest = vec![65; 1_048_576];
-    assert_eq!(
-        bezowik::cost(&record(b"A", 65_535), &longest),
-        Answer { count: 1_048_576, questions: 2 * 1_048_576 - 1, energy: 65_535 * 1_048_576, ..Answer::default() }
-    );
-    assert_eq!(bezowik::cost(&record(b"A", 1), &vec![65; 1_048_577]), Answer::refused(8, 0));
-    // fifteen keywords at every end: the most hits
-    let nested: Vec<u8> = (1..16).flat_map(|n| record(&vec![65; n], 65_535)).collect();
-    let all = bezowik::cost(&nested, &longest);
-    assert_eq!(all.count as usize, 15 * 1_048_576 - 105);
-    assert_eq!(all.energy, 65_535 * u64::from(all.count));
-    assert_eq!(all.questions, 2 * 1_048_576 - 15);
+    for (bytes, number) in [(1_279, 2), (1_280, 0), (1_281, 2), (1_300, 3)] {
+        assert_eq!(bezowik::cost(&more[..bytes], b""), Answer::refused(number, 0), "{bytes} bytes");
+    }
+    assert_eq!(bezowik::cost(&fifteen, &vec![65; 1_048_576]).number, 0);
+    assert_eq!(bezowik::cost(&fifteen, &vec![65; 1_048_577]), Answer::refused(8, 0));
+}
+
+/// Each of the four bytes of an energy alone: the low byte is the first.
+#[test]
+fn energy_bytes() {
+    for (at, energy) in [(16, 1), (17, 256), (18, 65_536), (19, 16_777_216)] {
+        let mut set = record(b"A", 0);
+        set[at] = 1;
+        assert_eq!(bezowik::cost(&set, b"A").energy, energy);
+        assert_eq!(record(b"A", energy as u32), set);
+        assert_eq!(keyword(&set).energy, energy);
+    }
+}
+
+/// The longest trace of one letter under its first n repetitions as keywords, each with the most energy: count and energy by the host call, both
+/// scans and the slow count.
+fn told_by_all(n: u32) -> (u32, u64) {
+    let set: Vec<u8> = (1..=n as usize).flat_map(|k| record(&vec![65; k], 4_294_967_295)).collect();
+    let (trace, mut ws) = (vec![65; 1_048_576], vec![0; WORKSPACE]);
+    let keywords = slow::keywords(&set).expect("the set passes its tests");
+    let table = bezowik::make(&set).expect("the set passes its tests");
+    // forward two questions for each letter, but one for each of the first n
+    let known = slow::found(&keywords, &slow::hits(&keywords, &trace), 2 * 1_048_576 - n);
+    assert_eq!(bezowik::cost(&set, &trace), known);
+    assert_eq!(bezowik::forward(&set, &trace, &mut ws, &mut []), known);
+    // backward n + 1 questions at each end, but at each of the first n as many as there are bytes
+    let known = Answer { questions: (n + 1) * 1_048_576 - n * (n + 1) / 2, ..known };
+    assert_eq!(bezowik::backward(&set, &trace, &table, &mut ws, &mut []), known);
+    (known.count, known.energy)
+}
+
+/// One keyword with the most energy at every end, and the most hits that can occur, each with the most: eight bytes are enough.
+#[test]
+fn largest_figures() {
+    assert_eq!(told_by_all(1), (1_048_576, 4_294_967_295 * 1_048_576));
+    assert_eq!(told_by_all(15), (15_728_535, 4_294_967_295 * 15_728_535));
 }
 
 #[test]

@@ -343,24 +343,27 @@ fn whole(job: Job, before: &Lent) -> String {
 
 // ---- every length ----
 
-/// Every length to 40, and those about the right one.
+/// The lengths of which every one is tried go some bytes over two records.
+const SHORT: usize = 2 * RECORD + 4;
+
+/// Every short length, and those about the right one.
 fn lengths(right: usize) -> Vec<usize> {
-    let about = right.saturating_sub(2).max(41)..=right + 2;
-    (0..=40).chain(about).collect()
+    let about = right.saturating_sub(2).max(SHORT + 1)..=right + 2;
+    (0..=SHORT).chain(about).collect()
 }
 
 /// Sets with which the right lengths are small, and document 01's set W.
 fn small_sets() -> Vec<Vec<u8>> {
     vec![
         record(b"L", 7),
-        [record(b"L", 7), record(b"M", 65_535)].concat(),
-        record(b"LM", 300),
+        [record(b"L", 7), record(b"M", 4_294_967_295)].concat(),
+        record(b"LM", 0x0102_0304),
         [record(b"A", 1), record(b"AA", 2), record(b"AAA", 4)].concat(),
         bench_set(),
     ]
 }
 
-/// Every length from 0 to 40 for each buffer of each function, the others being right.
+/// Every short length for each buffer of each function, the others being right.
 #[test]
 fn one_buffer_of_every_length() {
     let mut tally = Tally::new();
@@ -391,23 +394,23 @@ fn two_lengths(tally: &mut Tally, job: Job, right: &Lent, lengths: fn(usize) -> 
     }
 }
 
-/// Every two buffers of each function, of every two lengths from 0 to 40: which of two refusals comes first, and what a call that is refused leaves.
+/// Every two buffers of each function, of every two short lengths: which of two refusals comes first, and what a call that is refused leaves.
 #[test]
 fn two_buffers_of_every_length() {
     let mut tally = Tally::new();
     for set in small_sets() {
         for job in JOBS {
-            two_lengths(&mut tally, job, &right(job, &set, BENCH_TRACE), |_| (0..=40).collect());
+            two_lengths(&mut tally, job, &right(job, &set, BENCH_TRACE), |_| (0..=SHORT).collect());
         }
     }
     tally.tell("two_buffers_of_every_length");
 }
 
-/// The same with lengths about the right ones, which are longer than 40 for row files and byte files.
+/// The same with lengths about the right ones, which are longer for row files and byte files.
 #[test]
 fn two_buffers_about_the_right_lengths() {
     let mut tally = Tally::new();
-    let about = |right: usize| vec![0, 1, right / 2, right.saturating_sub(1), right, right + 1, right + RECORD];
+    let about = |right: usize| vec![0, 1, right / 2, right.saturating_sub(1), right, right + 1, right + ROW, right + RECORD];
     for set in small_sets() {
         for job in JOBS {
             two_lengths(&mut tally, job, &right(job, &set, BENCH_TRACE), about);
@@ -468,7 +471,7 @@ struct Large {
 
 /// The largest set of one kind: 64 keywords of 15 bytes each.
 fn largest_set(word: fn(usize) -> Vec<u8>) -> Vec<u8> {
-    (0..64).flat_map(|k| record(&word(k), 65_535 - k as u16)).collect()
+    (0..64).flat_map(|k| record(&word(k), 4_294_967_295 - k as u32)).collect()
 }
 
 /// Keyword k: the byte k and then fourteen bytes from 64 to 254. So no keyword begins within another, and 255 stands in none.
@@ -687,7 +690,8 @@ fn largest_table() {
     tally.tell("largest_table");
 }
 
-/// One element past a limit: a workspace of one number too few (9, place 961), a trace of one byte too many (8, before 9), a record too many.
+/// One element past a limit: a workspace of one number too few (9, place 961), a trace of one byte too many (8, before 9), a record too many, a set
+/// of a byte too few or too many.
 #[test]
 fn just_past_the_limits() {
     let mut tally = Tally::new();
@@ -707,6 +711,9 @@ fn just_past_the_limits() {
         let many = lent.with(Part::Set, 65 * RECORD);
         for job in JOBS {
             expect(job, &many, 3, 0);
+            for n in [64 * RECORD - 1, 64 * RECORD + 1] {
+                expect(job, &lent.with(Part::Set, n), 2, 0);
+            }
         }
         let unanswered = lent.with(Part::Answer, ANSWER - 1);
         for job in JOBS {
@@ -733,7 +740,7 @@ fn tiny_set(random: &mut Random) -> Vec<u8> {
             words.push(word);
         }
     }
-    words.iter().flat_map(|w| record(w, random.number() as u16)).collect()
+    words.iter().flat_map(|w| record(w, random.number() as u32)).collect()
 }
 
 /// The set, the set damaged, the set many times over, or any bytes.
@@ -743,7 +750,7 @@ fn lent_set(random: &mut Random, set: &[u8]) -> Vec<u8> {
         10..=13 => damaged_set(random, set),
         14 => set.repeat(1 + random.below(70)),
         _ => {
-            let (n, letters) = (random.below(60), 1 + random.below(256));
+            let (n, letters) = (random.below(3 * RECORD + 6), 1 + random.below(256));
             random.bytes(n, letters)
         }
     }

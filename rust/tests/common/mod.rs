@@ -24,7 +24,7 @@ pub fn random_set(random: &mut Random) -> Vec<u8> {
             words.push(word);
         }
     }
-    words.iter().flat_map(|w| record(w, random.number() as u16)).collect()
+    words.iter().flat_map(|w| record(w, random.number() as u32)).collect()
 }
 
 /// A trace of at most n bytes, of pieces of keywords and of other bytes.
