@@ -1,4 +1,5 @@
--- What a record states stands at its place in the set: each number of a keyword is one byte of the file.
+-- What a record states stands at its place in the set: each number of a keyword is one byte of the file, and its energy
+-- four.
 use Prim.Native.Nat.{ℕ, _+_, _*_, _≤_, _<_}
 use native.Mathlib.Omega.{arith}
 use native.Mathlib.Nat.{add-zero}
