@@ -39,10 +39,11 @@
  * Formats. A keyword set is records of 20 bytes: a length from 1 to 15, the keyword, zeros up to byte 15, and the
  * energy in four bytes, 16 to 19, low byte first: 0 to 4,294,967,295 picojoules; 1 to 64 records, no two keywords the
  * same. bezowik_put_record packs one. Records of 18 bytes, with an energy in two, are of an earlier format: every set
- * is read as records of 20. A trace is 0 to 1,048,576 bytes. Keywords are numbered from 0 in file order. A workspace
- * has six numbers for each row of the set, at most BEZOWIK_WORKSPACE. Hits are pairs: the end (how many trace bytes
- * stand up to and including the keyword's last) and the keyword's number; by end, rising, and at one end the longest
- * keyword first. A hit buffer receives the first pairs that fit, and the answer counts them all.
+ * is read as records of 20, and the tool's `bezowik convert` makes such a set of an old one. A trace is 0 to 1,048,576
+ * bytes. Keywords are numbered from 0 in file order. A workspace has six numbers for each row of the set, at most
+ * BEZOWIK_WORKSPACE. Hits are pairs: the end (how many trace bytes stand up to and including the keyword's last) and
+ * the keyword's number; by end, rising, and at one end the longest keyword first. A hit buffer receives the first
+ * pairs that fit, and the answer counts them all.
  *
  * A longer trace is cut, anywhere behind its first 14 bytes, and scanned in parts of at most 1,048,576 bytes. The
  * count and energy of the whole are the sums over the parts, each later part begun 14 bytes (BEZOWIK_OVERLAP) before

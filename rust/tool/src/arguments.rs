@@ -8,9 +8,9 @@ use std::path::PathBuf;
 const STATUS: &str = "\
 A file name of - is standard input, or standard output where one file is written.
 
-Exit status: 0 done; 1 a refusal, a table that is not safe, a wrong line of a csv, or a suffix that
-is no row; 2 bad usage, or a file that cannot be read or written; 4 `compare --fail-over` found a
-build that draws too much.";
+Exit status: 0 done; 1 a refusal, a table that is not safe, a wrong line of a csv, a suffix that is
+no row, or a file that needs no conversion; 2 bad usage, or a file that cannot be read or written;
+4 `compare --fail-over` found a build that draws too much.";
 
 /// What `bezowik set --help` says at its end.
 const CSV: &str = "\
@@ -24,8 +24,22 @@ such a row the first column is hex, or text with --text, and the second the ener
 
 Hex is pairs of digits, with spaces between or without. In a spreadsheet write the spaces: 0010
 typed as a number becomes 10. Text is printable ASCII. An energy is a whole number of picojoules,
-0 to 65535. Every wrong line is told, and nothing is written unless all are right. What was taken
-is listed, in bytes and in text.";
+0 to 4294967295. Every wrong line is told, and nothing is written unless all are right. What was
+taken is listed, in bytes and in text.";
+
+/// What `bezowik convert --help` says at its end.
+const OLD_SETS: &str = "\
+An old set has records of 18 bytes, two of which are the energy. The other commands take records of
+20 bytes, in which the energy has four. Keywords, energies and their order stay the same, and so do
+the skip tables of the set: row files and byte files need no conversion.
+
+    bezowik convert set.bin new.bin      the old set stays
+    bezowik convert set.bin set.bin      the new set takes its place
+
+The size of the old set is tested, its number of records, and in each the length of the keyword, the
+zeros behind it, and that no record before has it. The first record that is wrong is told by its
+number, from 0, and then nothing is written. A file of 180 bytes, or of a multiple of it, may hold
+records of either size: this command takes it as an old set, and no other does.";
 
 /// The two ways to use `bezowik explain`.
 const ROW_OR_BYTE: &str = "\
@@ -55,6 +69,9 @@ pub enum Command {
     /// Makes a keyword set from a csv, and lists what it took
     #[command(after_help = CSV)]
     Set(Set),
+    /// Makes a keyword set from an old one of 18-byte records, and lists what it took
+    #[command(after_help = OLD_SETS)]
+    Convert(Convert),
     /// Makes the skip tables of a set, with the largest safe numbers, or from csv, checked
     Tables(Tables),
     /// Checks skip tables: that every number is safe, or which are not
@@ -83,6 +100,18 @@ pub struct Set {
     /// Take the first column as text, where no first row names the columns
     #[arg(long)]
     pub text: bool,
+    #[command(flatten)]
+    pub replacing: Replacing,
+}
+
+#[derive(Args)]
+pub struct Convert {
+    /// The old set
+    #[arg(value_name = "OLD.bin")]
+    pub old: PathBuf,
+    /// The keyword set that is written, which may take the place of the old one
+    #[arg(value_name = "NEW.bin")]
+    pub new: PathBuf,
     #[command(flatten)]
     pub replacing: Replacing,
 }

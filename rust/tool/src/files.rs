@@ -1,7 +1,8 @@
 //! Files read, and names that are one file. A failure names the file.
 
+use crate::old;
 use crate::text::shown_name;
-use crate::{misuse, Failure};
+use crate::{misuse, Failure, Notes};
 use bezowik::{Table, TRACE};
 use std::fs::{self, File};
 use std::io::{self, ErrorKind, Read};
@@ -41,6 +42,13 @@ pub fn read(name: &Path) -> Result<Input, Failure> {
         ))),
         false => Ok(input),
     }
+}
+
+/// What is or may be a keyword set, whole. Where it may be an old set, that is noted.
+pub fn read_set(name: &Path, notes: &mut Notes) -> Result<Input, Failure> {
+    let set = read(name)?;
+    notes.extend(old::suggested(name, &set));
+    Ok(set)
 }
 
 /// A trace, up to the first byte that is too many: the library then refuses it, and a file of any length is no burden.

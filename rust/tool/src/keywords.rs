@@ -1,7 +1,7 @@
 //! The keywords of a set, and how they are shown in a table.
 
 use crate::arguments::Look;
-use crate::text::{cells, hex, text};
+use crate::text::{cells, columns, hex, text};
 use bezowik::sets::{keyword, Keyword};
 use bezowik::RECORD;
 use serde_json::{json, Value};
@@ -12,6 +12,16 @@ pub const LEFT: [&str; 6] = ["build", "file", "bytes", "text", "row or byte", "s
 /// The keywords of a set that the library has accepted.
 pub fn keywords(set: &[u8]) -> Vec<Keyword> {
     set.chunks_exact(RECORD).map(keyword).collect()
+}
+
+/// A table of keywords and their energies, with the bytes and, where all of them are printable, the text side by side.
+/// In front stand columns of a command's own.
+pub fn table<'a>(front: &[&str], keywords: impl Iterator<Item = (Vec<String>, &'a [u8], u64)>) -> String {
+    let mut lines = vec![cells(&[front, &["bytes", "text", "energy pJ"]].concat())];
+    for (front, word, energy) in keywords {
+        lines.push([front, vec![hex(word), text(word).unwrap_or_default(), energy.to_string()]].concat());
+    }
+    columns(&lines, &LEFT)
 }
 
 impl Look {

@@ -66,20 +66,21 @@ fn names_suffix(row: &[u8], empty: bool) -> bool {
 #[cfg(test)]
 mod tests {
     use super::{kind, Kind, LONGEST};
+    use crate::records::row;
     use bezowik::random::Random;
     use bezowik::sets::record;
-    use bezowik::{BYTES, ROW};
+    use bezowik::{BYTES, RECORD, ROW};
 
     const ALL: [Kind; 3] = [Kind::Set, Kind::Rows, Kind::Bytes];
 
     /// The longest set, whose tables are the longest, too.
     fn longest_set() -> Vec<u8> {
-        (0..64).flat_map(|i| record(&[i; 15], 65535)).collect()
+        (0..64).flat_map(|i| record(&[i; 15], u32::MAX)).collect()
     }
 
     /// A row file of so many rows, all numbers of which are wrong.
     fn rows(n: usize) -> Vec<u8> {
-        (0..n).flat_map(|i| record(&[7; 15][..i.min(15)], 0xffff)).collect()
+        (0..n).flat_map(|i| row(&[7; 15][..i.min(15)], 0xff, 0xff)).collect()
     }
 
     #[test]
@@ -127,12 +128,17 @@ mod tests {
     fn sizes() {
         let fitting = |size: u64| ALL.map(|kind| kind.size_fits(size));
         assert_eq!(fitting(0), [false; 3]);
-        assert_eq!(fitting(18), [true, false, false]);
-        for (size, set) in [(36, true), (64 * 18, true), (65 * 18, false), (LONGEST, false)] {
-            assert_eq!(
-                [fitting(size - 1), fitting(size), fitting(size + 1)],
-                [[false; 3], [set, true, false], [false; 3]]
-            );
+        let around = |size: u64| [fitting(size - 1), fitting(size), fitting(size + 1)];
+        assert_eq!(around(18), [[false; 3]; 3]);
+        for size in [20, 40, 64 * 20] {
+            assert_eq!(around(size), [[false; 3], [true, false, false], [false; 3]]);
+        }
+        for size in [36, 64 * 18, 65 * 18, 72 * 18, LONGEST] {
+            assert_eq!(around(size), [[false; 3], [false, true, false], [false; 3]]);
+        }
+        // whole records of both
+        for size in [180, 6 * 180, 7 * 180] {
+            assert_eq!(around(size), [[false; 3], [true, true, false], [false; 3]]);
         }
         assert_eq!([4095, 4096, 4097].map(fitting), [[false; 3], [false, false, true], [false; 3]]);
         assert_eq!([LONGEST + 18, 1 << 40, u64::MAX].map(fitting), [[false; 3]; 3]);
@@ -151,7 +157,8 @@ mod tests {
                 let at = [0, random.below(bytes.len())][random.below(2)];
                 bytes[at] = [0, 1, random.number() as u8][random.below(3)];
             }
-            let size = [bytes.len(), random.below(bytes.len() / ROW + 1) * ROW][random.below(2)];
+            let whole = [1, ROW, RECORD, ROW * RECORD / 2][random.below(4)];
+            let size = [bytes.len(), random.below(bytes.len() / whole + 1) * whole][random.below(2)];
             bytes.truncate(size);
             let held = ALL.into_iter().filter(|kind| kind.size_fits(bytes.len() as u64) && kind.holds(&bytes));
             assert!(held.count() <= 1, "{}", bytes.escape_ascii());

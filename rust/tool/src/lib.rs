@@ -9,6 +9,7 @@ pub mod files;
 pub mod jobs;
 pub mod keywords;
 pub mod kinds;
+pub mod old;
 pub mod outputs;
 pub mod records;
 pub mod refusals;
@@ -29,7 +30,7 @@ pub enum Failure {
     Usage(String),
     /// A file that cannot be read or written; the message names it.
     File(String),
-    /// A refusal of the library, wrong lines in a csv, or a suffix that is no row.
+    /// A refusal of the library, wrong lines in a csv, a suffix that is no row, or a file that needs no conversion.
     Refused(String),
     /// A build that draws more than it may; the result has been printed.
     Over(String),
@@ -38,6 +39,9 @@ pub enum Failure {
 }
 
 pub type Done = Result<(), Failure>;
+
+/// What is said on standard error when a command has ended, however it ended.
+pub type Notes = Vec<String>;
 
 /// What a failed write to the output is: the files that the tool writes are written by `outputs::write`.
 impl From<io::Error> for Failure {
@@ -70,15 +74,18 @@ pub fn main() -> ExitCode {
         Err(error) => return told(&error),
     };
     let mut out = BufWriter::new(io::stdout().lock());
-    let done = run(&arguments.command, &mut out);
+    let mut notes = Notes::new();
+    let done = run(&arguments.command, &mut out, &mut notes);
     // what was printed comes before what is said of it
     let flushed = out.flush().map_err(Failure::from);
-    match done.and(flushed) {
+    let status = match done.and(flushed) {
         Ok(()) | Err(Failure::Closed) => ExitCode::SUCCESS,
         Err(Failure::Refused(message)) => fail(1, &message),
         Err(Failure::File(message) | Failure::Usage(message)) => fail(2, &message),
         Err(Failure::Over(message)) => fail(4, &message),
-    }
+    };
+    notes.iter().for_each(|note| say(&format!("note: {note}")));
+    status
 }
 
 /// Help, the version, or what is wrong with the arguments, which it repeats without what a terminal would obey.
@@ -105,20 +112,26 @@ fn told(error: &clap::Error) -> ExitCode {
 
 /// The message on stderr, and the status. A message that cannot be written leaves the status.
 fn fail(status: u8, message: &str) -> ExitCode {
-    let _ = writeln!(io::stderr(), "{}", message.trim_end());
+    say(message);
     ExitCode::from(status)
 }
 
+/// A message on stderr, where it can be written.
+fn say(message: &str) {
+    let _ = writeln!(io::stderr(), "{}", message.trim_end());
+}
+
 /// One command.
-fn run(command: &Command, out: &mut dyn Write) -> Done {
+fn run(command: &Command, out: &mut dyn Write, notes: &mut Notes) -> Done {
     match command {
         Command::Set(asked) => jobs::set::run(asked, out),
-        Command::Tables(asked) => jobs::tables::run(asked, out),
-        Command::Check(asked) => jobs::check::run(asked, out),
-        Command::Scan(asked) => jobs::scan::run(asked, out),
-        Command::Compare(asked) => jobs::compare::run(asked, out),
-        Command::Show(asked) => jobs::show::run(asked, out),
-        Command::Explain(asked) => jobs::explain::run(asked, out),
+        Command::Convert(asked) => jobs::convert::run(asked, out, notes),
+        Command::Tables(asked) => jobs::tables::run(asked, out, notes),
+        Command::Check(asked) => jobs::check::run(asked, out, notes),
+        Command::Scan(asked) => jobs::scan::run(asked, out, notes),
+        Command::Compare(asked) => jobs::compare::run(asked, out, notes),
+        Command::Show(asked) => jobs::show::run(asked, out, notes),
+        Command::Explain(asked) => jobs::explain::run(asked, out, notes),
         Command::Completions(asked) => {
             let mut text = Vec::new();
             clap_complete::generate(asked.shell, &mut Arguments::command(), "bezowik", &mut text);

@@ -3,6 +3,7 @@
 
 use crate::files::{is_standard, place, same};
 use crate::kinds::{kind, Kind, LONGEST};
+use crate::old;
 use crate::text::shown_name;
 use crate::Failure;
 use std::collections::hash_map::RandomState;
@@ -96,16 +97,18 @@ fn tested(file: &Output, force: bool) -> Result<Option<Place>, Failure> {
     Ok(Some(Place { path, old }))
 }
 
-/// Refuses to replace a file of so many bytes that is not of its output's kind. With one of no bytes nothing is lost.
+/// Refuses to replace a file of so many bytes that is not of its output's kind; an old set is one. With a file of no
+/// bytes nothing is lost.
 fn replaceable(file: &Output, size: u64) -> Result<(), Failure> {
     let (name, kind_name) = (shown_name(file.name), file.kind.name());
     let refused = |why: String| Failure::File(format!("{name}: {why}; --force replaces it"));
     let mut bytes = Vec::with_capacity(LONGEST as usize + 1);
-    if size > 0 && file.kind.size_fits(size) {
+    let set = file.kind == Kind::Set;
+    if size > 0 && (file.kind.size_fits(size) || set && old::size_fits(size)) {
         let read = File::open(file.name).and_then(|opened| opened.take(LONGEST + 1).read_to_end(&mut bytes));
         read.map_err(|error| refused(format!("cannot be read, to see whether it is {kind_name}: {error}")))?;
     }
-    match size == 0 || kind(&bytes) == Some(file.kind) {
+    match size == 0 || kind(&bytes) == Some(file.kind) || set && old::passes(&bytes) {
         true => Ok(()),
         false => Err(refused(format!("is not {kind_name}, and is not replaced"))),
     }

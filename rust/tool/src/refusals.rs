@@ -2,11 +2,11 @@
 
 use crate::faults::byte_shown;
 use crate::files::{Input, Tables};
+use crate::old::OLD_RECORD;
 use crate::records::{self, DEPTHS, EDGE, INNER, NAME};
 use crate::text::{hex, shown, shown_name, suffix};
 use crate::Failure;
-use bezowik::sets::keyword;
-use bezowik::{Answer, Table, BYTES, RECORD, ROW};
+use bezowik::{Answer, Table, BYTES, KEYWORDS, LONGEST, RECORD, ROW};
 use std::path::Path;
 
 /// Refusal 8. The longest keyword has 15 bytes, so that one which a cut divides stands whole in the part behind the
@@ -28,14 +28,24 @@ pub fn accepted(answer: Answer, lent: &Lent) -> Result<Answer, Failure> {
         return Ok(answer);
     }
     let (file, sentence) = explained(answer, lent);
-    Err(Failure::Refused(format!("{}: refusal {} place {}: {sentence}", shown_name(file), answer.number, answer.place)))
+    Err(refused(answer, file, &sentence))
+}
+
+/// The refusal of an old set in words.
+pub fn of_old_set(answer: Answer, old: &Input) -> Failure {
+    refused(answer, &old.name, &of_set(answer, &old.bytes, OLD_RECORD))
+}
+
+/// A refusal, with its file and its sentence.
+fn refused(answer: Answer, file: &Path, sentence: &str) -> Failure {
+    Failure::Refused(format!("{}: refusal {} place {}: {sentence}", shown_name(file), answer.number, answer.place))
 }
 
 /// The file that a refusal is about, and the sentence.
 fn explained<'a>(answer: Answer, lent: &Lent<'a>) -> (&'a Path, String) {
     let place = answer.place as usize;
     match (answer.number, lent.trace, lent.tables) {
-        (1..=6, _, _) => (&lent.set.name, of_set(answer.number, place, &lent.set.bytes)),
+        (1..=6, _, _) => (&lent.set.name, of_set(answer, &lent.set.bytes, RECORD)),
         (8, Some(trace), _) => (&trace.name, TOO_LONG.to_string()),
         (10..=12, _, Some(tables)) => (&tables.row_name, of_rows(answer.number, place, &lent.set.bytes, &tables.table)),
         (13..=14, _, Some(tables)) => {
@@ -46,35 +56,32 @@ fn explained<'a>(answer: Answer, lent: &Lent<'a>) -> (&'a Path, String) {
     }
 }
 
-/// The refusals 1 to 6.
-fn of_set(number: u16, place: usize, set: &[u8]) -> String {
-    match number {
-        1 => "the set has no bytes: it must have at least one record of 18 bytes".to_string(),
-        2 => format!("the set has {} bytes, no multiple of 18: the file is cut short or is no keyword set", set.len()),
-        3 => format!("the set has {} records, more than 64: split it", set.len() / RECORD),
-        4 => format!("record {place} has the length {}, and a keyword has 1 to 15 bytes", record(set, place)[0]),
+/// The refusals 1 to 6, of a set whose records have so many bytes.
+fn of_set(answer: Answer, set: &[u8], record: usize) -> String {
+    let (place, size) = (usize::from(answer.place), set.len());
+    let word = |place: usize| word(&set[record * place..record * (place + 1)]);
+    match answer.number {
+        1 => format!("the set has no bytes: it must have at least one record of {record} bytes"),
+        2 => format!("the set has {size} bytes, no multiple of {record}: the file is cut short or is no keyword set"),
+        3 => format!("the set has {} records, more than {KEYWORDS}: split it", size / record),
+        4 => format!("record {place} has the length {}, and a keyword has 1 to {LONGEST} bytes", set[record * place]),
         5 => format!(
-            "record {place}, keyword {}: the bytes behind the keyword, up to byte 15, must be zero",
-            shown(&word(set, place))
+            "record {place}, keyword {}: the bytes behind the keyword, up to byte {LONGEST}, must be zero",
+            shown(word(place))
         ),
         _ => {
-            let earlier = (0..place).find(|&i| word(set, i) == word(set, place)).unwrap_or(0);
+            let earlier = (0..place).find(|&i| word(i) == word(place)).unwrap_or(0);
             format!(
                 "record {place} has the same bytes as record {earlier}, {}: take one of the two out",
-                shown(&word(set, place))
+                shown(word(place))
             )
         }
     }
 }
 
-/// A record of a set.
-fn record(set: &[u8], place: usize) -> &[u8] {
-    &set[RECORD * place..RECORD * (place + 1)]
-}
-
 /// The keyword of a record that has passed test 4.
-fn word(set: &[u8], place: usize) -> Vec<u8> {
-    keyword(record(set, place)).word
+fn word(record: &[u8]) -> &[u8] {
+    &record[1..1 + usize::from(record[0])]
 }
 
 /// The refusals 10 to 12, beside the table with the largest numbers.

@@ -48,7 +48,7 @@ const NAMED: usize = 8;
 pub struct Taken {
     pub line: usize,
     pub word: Vec<u8>,
-    pub energy: u16,
+    pub energy: u32,
 }
 
 /// What was taken from a csv, and what its writer should look at although it was taken.
@@ -431,7 +431,7 @@ fn unprintable(text: &[u8]) -> Option<Vec<u8>> {
 }
 
 /// The energy of a cell, or what is wrong with it.
-fn energy(cell: &[u8]) -> Result<u16, String> {
+fn energy(cell: &[u8]) -> Result<u32, String> {
     let text = String::from_utf8_lossy(cell);
     let digits = text.trim_matches(' ');
     let only = |others: &str| digits.chars().all(|c| c.is_ascii_digit() || others.contains(c));

@@ -231,7 +231,7 @@ fn shown_and_taken_back() {
     assert_eq!(folder.read("w2.bin"), bench_set());
     folder.done("tables w.bin r2.bin b2.bin --from r.csv b.csv");
     assert_eq!(Table { rows: folder.read("r2.bin"), bytes: folder.read("b2.bin") }, bench_table());
-    let told = "t.bin: refusal 2 place 0: the set has 7 bytes, no multiple of 18: the file is cut short or is no keyword set; \
+    let told = "t.bin: refusal 2 place 0: the set has 7 bytes, no multiple of 20: the file is cut short or is no keyword set; \
 nor is it a row file or a byte file\n";
     assert_eq!(folder.fails(1, "show t.bin"), told);
 }

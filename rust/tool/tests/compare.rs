@@ -143,6 +143,42 @@ fn fail_over() {
     }
 }
 
+/// One picojoule between totals that a number with a point does not hold exactly is told, and counted by --fail-over.
+#[test]
+fn largest_totals() {
+    let folder = Folder::new("largest_totals");
+    let most = bezowik::ENERGY as u32;
+    let words = (1..=15).flat_map(|n| record(&vec![0; n], most));
+    folder.write("set.bin", &words.chain(record(b"A", 1)).chain(record(b"B", most)).collect::<Vec<u8>>());
+    let trace = |last: u8| [vec![0; 1_048_575], vec![last]].concat();
+    for (name, last) in [("x.bin", b'X'), ("a.bin", b'A'), ("b.bin", b'B')] {
+        folder.write(name, &trace(last));
+    }
+    folder.write("empty.bin", b"");
+    let expected = "build  file          count          energy pJ      more than A pJ       %
+A      x.bin      15728520  67553478998753400
+B      a.bin      15728521  67553478998753401                  +1    +0.0
+C      b.bin      15728521  67553483293720695         +4294967295    +0.0
+D      empty.bin         0                  0  -67553478998753400  -100.0
+D draws least: 67553478998753400 pJ less than A (100.0 % less)
+
+no  bytes     in A     in B     in C  in D  B - A pJ  C - A pJ           D - A pJ
+ 0  00     1048575  1048575  1048575     0         0         0  -4503595331354625
+";
+    let out = folder.done("compare set.bin x.bin a.bin b.bin empty.bin --hex --top 1");
+    assert_eq!(out, format!("{expected}and 16 keywords more with a difference\n"));
+    let told = "a.bin: build B draws 67553478998753401 pJ, over 0 % more than the 67553478998753400 pJ of build A\n";
+    let (status, _, says) = folder.run("compare set.bin x.bin a.bin --fail-over 0");
+    assert_eq!((status, says.as_str()), (4, told));
+    let least = folder.done("compare set.bin a.bin x.bin --fail-over 0");
+    assert!(least.contains("\nB draws least: 1 pJ less than A (0.0 % less)\n"), "{least}");
+    folder.done("compare set.bin x.bin b.bin --fail-over 0.001");
+    let json = folder.done("compare set.bin x.bin a.bin --json");
+    for energy in ["67553478998753400", "67553478998753401"] {
+        assert!(json.lines().any(|line| line.trim() == format!("\"energy\": {energy}")), "{json}");
+    }
+}
+
 /// A part that is not the whole is not called all of it.
 #[test]
 fn almost_all() {

@@ -162,7 +162,7 @@ fn set_of(seed: u64) -> Vec<u8> {
     let least = (1 + random.below(7)).min(all.iter().map(|k| k.word.len()).max().expect("a keyword"));
     let kept = all.iter().filter(|k| k.word.len() >= least);
     let word = |k: &Keyword| k.word.iter().map(|&byte| letters[usize::from(byte)]).collect::<Vec<u8>>();
-    kept.flat_map(|k| record(&word(k), k.energy as u16)).collect()
+    kept.flat_map(|k| record(&word(k), k.energy as u32)).collect()
 }
 
 /// The first keyword that has v with exactly n bytes after it.

@@ -8,7 +8,7 @@ mod folder;
 use bezowik::sets::record;
 use bezowik::Table;
 use common::{bench_set, BENCH_TRACE};
-use folder::{bench_table, Folder};
+use folder::{bench_table, old_bench_set, old_record, Folder};
 use std::fs::{self, File, Permissions};
 use std::io::{Read, Seek, Write};
 use std::os::unix::fs::{chown, symlink, MetadataExt, PermissionsExt};
@@ -157,35 +157,48 @@ fn no_half_result() {
     assert_eq!(Table { rows: folder.read("old.bin"), bytes: folder.read("made.bin") }, bench_table());
 }
 
-/// Only a file of the kind that a command writes, or an empty one, is replaced without force.
+/// What may be there already: sets, row files, byte files, nothing, a trace, csvs, parts of a set and of a table.
+fn there() -> Vec<(Vec<u8>, Option<&'static str>)> {
+    let (set, old) =
+        ([record(b"X", 7), record(b"XY", 8)].concat(), [old_record(b"X", 7), old_record(b"XY", 8)].concat());
+    let table = bezowik::make(&set).expect("the set passes");
+    let damaged = [&table.rows[..34], &[255, 0], &table.rows[36..]].concat();
+    vec![
+        (set[..39].to_vec(), Some("part of a set")),
+        (set, Some("a keyword set")),
+        (old_record(b"X", 7), Some("a keyword set")),
+        ((0..10).flat_map(|i| old_record(&[i], 1)).collect(), Some("a keyword set")),
+        (old[..35].to_vec(), Some("part of an old set")),
+        ([&old[..], &old[..18]].concat(), Some("an old set that repeats a keyword")),
+        (old, Some("a keyword set")),
+        (table.rows[..20].to_vec(), Some("part of a table")),
+        (table.rows, Some("a row file")),
+        (damaged, Some("a row file")),
+        (table.bytes, Some("a byte file")),
+        (vec![0; 4096], Some("a byte file")),
+        (vec![], None),
+        (BENCH_TRACE.to_vec(), Some("a trace")),
+        (vec![b'L'; 4096], Some("a trace")),
+        (b"\"L\",1\n\"M\",2\n\"N\",3".to_vec(), Some("a csv of 18 bytes")),
+        (b"\"L\",1\n\"M\",2\n\"N\",345".to_vec(), Some("a csv of 20 bytes")),
+    ]
+}
+
+/// Only a file of the kind that a command writes, or an empty one, is replaced without force. An old set is a set.
 #[test]
 fn kinds_that_are_replaced() {
     let folder = bench("kinds_that_are_replaced");
-    let other = [record(b"X", 7), record(b"XY", 8)].concat();
-    let table = bezowik::make(&other).expect("the set passes");
-    let damaged = [&table.rows[..34], &[255, 0], &table.rows[36..]].concat();
-    // what is there: a set, row files, byte files, nothing, a trace, a csv, part of a table
-    let there: [(&[u8], Option<&str>); 10] = [
-        (&other, Some("a keyword set")),
-        (&table.rows, Some("a row file")),
-        (&damaged, Some("a row file")),
-        (&table.bytes, Some("a byte file")),
-        (&[0; 4096], Some("a byte file")),
-        (b"", None),
-        (BENCH_TRACE, Some("a trace")),
-        (&[b'L'; 4096], Some("a trace")),
-        (b"\"L\",1\n\"M\",2\n\"N\",3", Some("a csv of 18 bytes")),
-        (&table.rows[..20], Some("part of a table")),
-    ];
     let new = bench_table();
-    let commands: [(&str, &str, &[u8]); 3] = [
+    folder.write("old.bin", &old_bench_set());
+    let commands: [(&str, &str, &[u8]); 4] = [
         ("set w.csv there.bin", "a keyword set", &bench_set()),
+        ("convert old.bin there.bin", "a keyword set", &bench_set()),
         ("tables w.bin there.bin n.bin", "a row file", &new.rows),
         ("tables w.bin n.bin there.bin", "a byte file", &new.bytes),
     ];
-    for (bytes, holds) in there {
+    for (bytes, holds) in there() {
         for (command, written, new) in commands {
-            folder.write("there.bin", bytes);
+            folder.write("there.bin", &bytes);
             if holds.is_some_and(|kind| kind != written) {
                 let before = folder.listed();
                 let told = format!("there.bin: is not {written}, and is not replaced; --force replaces it\n");
@@ -208,6 +221,7 @@ fn files_that_are_too_long() {
     let told = |name: &str| format!("{name}: the file is longer than 16 MiB, and no set, table or csv is\n");
     let commands = [
         "set /dev/zero n.bin",
+        "convert /dev/zero n.bin",
         "tables /dev/zero n.bin b.bin",
         "check /dev/zero rows.bin bytes.bin",
         "check w.bin /dev/zero bytes.bin",
@@ -258,6 +272,8 @@ fn files_that_are_missing() {
     let folder = bench("files_that_are_missing");
     let reads = [
         "set none w.bin",
+        "convert none w.bin",
+        "convert none none",
         "tables none r.bin b.bin",
         "check none rows.bin bytes.bin",
         "check w.bin none bytes.bin",
@@ -274,8 +290,14 @@ fn files_that_are_missing() {
         let told = folder.fails(2, arguments);
         assert!(told.starts_with("none: cannot be read: ") && told.lines().count() == 1, "{arguments}: {told}");
     }
+    folder.write("old.bin", &old_bench_set());
     let before = folder.listed();
-    for arguments in ["set w.csv none/file", "tables w.bin none/file b.bin", "tables w.bin r.bin none/file"] {
+    for arguments in [
+        "set w.csv none/file",
+        "convert old.bin none/file",
+        "tables w.bin none/file b.bin",
+        "tables w.bin r.bin none/file",
+    ] {
         let told = folder.fails(2, arguments);
         assert!(told.starts_with("none/file: cannot be written: ") && told.lines().count() == 1, "{arguments}: {told}");
     }
@@ -376,8 +398,9 @@ fn protected_files() {
 fn standard_input() {
     let folder = bench("standard_input");
     let table = bench_table();
-    let cases: [(&str, &[u8]); 9] = [
+    let cases: [(&str, &[u8]); 10] = [
         ("set - n.bin", BENCH_CSV),
+        ("convert - c.bin", &old_bench_set()),
         ("tables - r.bin b.bin", &bench_set()),
         ("check - rows.bin bytes.bin", &bench_set()),
         ("check w.bin - bytes.bin", &table.rows),
@@ -391,6 +414,7 @@ fn standard_input() {
         let (status, _, told) = folder.fed(arguments, input);
         assert_eq!((status, told.as_str()), (Some(0), ""), "{arguments}");
     }
+    assert_eq!(folder.read("c.bin"), bench_set());
     assert_eq!(
         (folder.read("n.bin"), folder.read("r.bin"), folder.read("b.bin")),
         (bench_set(), table.rows, table.bytes)
@@ -421,11 +445,19 @@ fn standard_input() {
 #[test]
 fn standard_output() {
     let folder = bench("standard_output");
+    let old = &old_bench_set()[..];
+    folder.write("old.bin", old);
     let before = folder.listed();
-    for (arguments, input) in [("set w.csv -", &b""[..]), ("set - -", BENCH_CSV)] {
+    let (written, converted) = ("3 keywords written\n\nno  line  bytes ", "3 old records converted\n\nno  bytes ");
+    for (arguments, input, says) in [
+        ("set w.csv -", &b""[..], written),
+        ("set - -", BENCH_CSV, written),
+        ("convert old.bin -", b"", converted),
+        ("convert - -", old, converted),
+    ] {
         let (status, out, told) = folder.fed(arguments, input);
         assert_eq!((status, out), (Some(0), bench_set()), "{arguments}");
-        assert!(told.starts_with("3 keywords written\n\nno  line  bytes "), "{told}");
+        assert!(told.starts_with(says), "{told}");
     }
     for arguments in ["tables w.bin - b.bin", "tables w.bin r.bin -", "tables w.bin - -"] {
         let (status, out, told) = folder.fed(arguments, b"");

@@ -12,8 +12,8 @@ use std::panic::{catch_unwind, resume_unwind, AssertUnwindSafe};
 use std::time::{Duration, Instant};
 
 /// Cells that look like mistakes, like names, or like each other, with a bar between.
-const CELLS: &str = "hex|text|energy|note|Hex |TEXT|LM|ALM|AD|BEAD|ff|4c|4c4d|4C 4D|41|4142|0x4c|0x|10|102|40|55|0|65535|\
-    65536|40,5|40.0|1.234|4E+01|-4|+4|40 pJ|| | LM|LM |\"LM\"|'LM'|“LM”|#|# more|Größe|a,b|a;b|a\tb|a\nb|a\"b|\u{1b}[2J";
+const CELLS: &str = "hex|text|energy|note|Hex |TEXT|LM|ALM|AD|BEAD|ff|4c|4c4d|4C 4D|41|4142|0x4c|0x|10|102|40|55|0|65536|\
+    4294967295|4294967296|40,5|40.0|1.234|4E+01|-4|+4|40 pJ|| | LM|LM |\"LM\"|'LM'|“LM”|#|# more|Größe|a,b|a;b|a\tb|a\nb|a\"b|\u{1b}[2J";
 
 /// Bytes that mean something in a csv.
 const MARKS: &[u8] = b"\",;\t\n\r \"4cA0x#.-\0\xef\xff\xfe\xfc";
@@ -22,7 +22,7 @@ const MARKS: &[u8] = b"\",;\t\n\r \"4cA0x#.-\0\xef\xff\xfe\xfc";
 struct Case {
     csv: Vec<u8>,
     text: bool,
-    known: Option<Vec<(Vec<u8>, u16)>>,
+    known: Option<Vec<(Vec<u8>, u32)>>,
 }
 
 /// A number that the environment gives.
@@ -121,7 +121,7 @@ fn made(random: &mut Random) -> Case {
 }
 
 /// Keywords of which no two are the same. Those of text have nothing in them that text may not have.
-fn random_keywords(random: &mut Random, is_text: bool) -> Vec<(Vec<u8>, u16)> {
+fn random_keywords(random: &mut Random, is_text: bool) -> Vec<(Vec<u8>, u32)> {
     let most = [1, 4, 12, 64][random.below(4)];
     let (number, letters) = (1 + random.below(most), [2, 20, 95][random.below(3)]);
     let mut seen = HashSet::new();
@@ -137,7 +137,7 @@ fn random_keywords(random: &mut Random, is_text: bool) -> Vec<(Vec<u8>, u16)> {
         let name = ["hex", "text", "energy"].iter().any(|name| word.eq_ignore_ascii_case(name.as_bytes()));
         let wrong = is_text && (quotes || name || word.trim_ascii() != word);
         if !wrong && seen.insert(word.clone()) {
-            keywords.push((word, random.below(65536) as u16));
+            keywords.push((word, random.number() as u32 >> random.below(32)));
         }
     }
     match keywords.is_empty() {
@@ -164,7 +164,7 @@ fn hex_cell(random: &mut Random, word: &[u8], header: bool) -> String {
 }
 
 /// An energy in any of the ways.
-fn energy_cell(random: &mut Random, energy: u16) -> String {
+fn energy_cell(random: &mut Random, energy: u32) -> String {
     let space = ["", "", " ", "  "];
     format!("{}{}{energy}{}", space[random.below(4)], ["", "", "0", "000"][random.below(4)], space[random.below(4)])
 }
@@ -236,7 +236,7 @@ fn of_cells(random: &mut Random) -> Vec<u8> {
         let mut row: Vec<String> = (0..width).map(|_| any_cell(random)).collect();
         if !random.once_in(3) {
             row[0] = ["LM", "4c4d", "AD", "41", "ff 00", "40", "7", "0x4c"][random.below(8)].to_string();
-            row[1] = ["40", "0", " 65535", "1", "AD", "LM"][random.below(6)].to_string();
+            row[1] = ["40", "0", " 4294967295", "1", "AD", "LM"][random.below(6)].to_string();
         }
         table.push(row);
     }
@@ -271,7 +271,7 @@ fn check(case: &Case, random: &mut Random) -> bool {
     match keywords(&case.csv, case.text) {
         Ok(sheet) => {
             let word = |keyword: &Taken| (keyword.word.clone(), keyword.energy);
-            let words: Vec<(Vec<u8>, u16)> = sheet.keywords.iter().map(word).collect();
+            let words: Vec<(Vec<u8>, u32)> = sheet.keywords.iter().map(word).collect();
             assert!(case.known.as_ref().is_none_or(|known| *known == words), "other keywords: {words:02x?}");
             check_sheet(&sheet, lines);
             check_again(case, &sheet, random);

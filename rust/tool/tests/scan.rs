@@ -6,7 +6,7 @@ mod folder;
 
 use bezowik::random::Random;
 use bezowik::sets::record;
-use bezowik::slow;
+use bezowik::{slow, RECORD};
 use common::{random_set, random_trace};
 use folder::Folder;
 use std::process::{Command, Stdio};
@@ -92,20 +92,20 @@ fn keywords_of_all_kinds() {
     let folder = Folder::new("keywords_of_all_kinds");
     folder.write(
         "set.bin",
-        &[record(b"a,\"", 65535), record(b" b", 1), record(&[0x4c, 0], 2), record(&[0x7f], 3)].concat(),
+        &[record(b"a,\"", 4294967295), record(b" b", 1), record(&[0x4c, 0], 2), record(&[0x7f], 3)].concat(),
     );
     folder.write("trace.bin", b"a,\" bL\0\x7f");
-    let expected = "count 4 energy 65541 questions 11
+    let expected = "count 4 energy 4294967301 questions 11
 
-no  bytes     text  occurrences  energy pJ  share %
- 0  61 2c 22  a,\"             1      65535     99.9
- 1  20 62      b              1          1      0.0
- 2  4c 00                     1          2      0.0
- 3  7f                        1          3      0.0
+no  bytes     text  occurrences   energy pJ  share %
+ 0  61 2c 22  a,\"             1  4294967295     99.9
+ 1  20 62      b              1           1      0.0
+ 2  4c 00                     1           2      0.0
+ 3  7f                        1           3      0.0
 ";
     assert_eq!(folder.done("scan set.bin trace.bin"), expected);
     let csv =
-        "number,hex,text,occurrences,energy\n0,61 2c 22,\"a,\"\"\",1,65535\n1,20 62, b,1,1\n2,4c 00,,1,2\n3,7f,,1,3\n";
+        "number,hex,text,occurrences,energy\n0,61 2c 22,\"a,\"\"\",1,4294967295\n1,20 62, b,1,1\n2,4c 00,,1,2\n3,7f,,1,3\n";
     assert_eq!(folder.done("scan set.bin trace.bin --csv"), csv);
     assert!(folder.done("scan set.bin trace.bin --text").contains("\n 3  [7f]  "));
     let json: serde_json::Value = serde_json::from_str(&folder.done("scan set.bin trace.bin --json")).expect("json");
@@ -161,6 +161,36 @@ each later part's first 14 bytes alone\n";
     }
 }
 
+/// The most energy that a scan can find, to the last digit: more than a number with a point holds exactly.
+#[test]
+fn most_energy() {
+    let folder = Folder::new("most_energy");
+    let most = bezowik::ENERGY as u32;
+    let set: Vec<u8> = (1..=15).flat_map(|n| record(&vec![0; n], most)).collect();
+    folder.write("set.bin", &set);
+    folder.write("trace.bin", &vec![0; 1_048_576]);
+    folder.done("tables set.bin rows.bin bytes.bin");
+    let (energy, first, last) = (67_553_543_423_262_825_u64, 4_503_599_626_321_920_u64, 4_503_539_496_779_790_u64);
+    for backward in ["", " --backward rows.bin bytes.bin"] {
+        let scan = format!("scan set.bin trace.bin{backward}");
+        let out = folder.done(&scan);
+        assert!(out.starts_with(&format!("count 15728535 energy {energy} questions ")), "{out}");
+        for share in [format!("1048576  {first}      6.7"), format!("1048562  {last}      6.7")] {
+            assert!(out.lines().any(|line| line.ends_with(&share)), "{out}");
+        }
+        let json = folder.done(&format!("{scan} --json"));
+        for number in [energy, first, last] {
+            assert!(
+                json.lines().any(|line| line.trim().trim_end_matches(',') == format!("\"energy\": {number}")),
+                "{json}"
+            );
+        }
+        let csv = folder.done(&format!("{scan} --csv"));
+        let energies = csv.lines().skip(1).map(|line| line.rsplit(',').next().and_then(|e| e.parse::<u64>().ok()));
+        assert_eq!(energies.sum::<Option<u64>>(), Some(energy));
+    }
+}
+
 /// A scan under a table that is not safe prints nothing, and says which number is wrong and what it may be.
 #[test]
 fn refused_tables() {
@@ -186,14 +216,14 @@ fn refused_tables() {
 fn refused_sets() {
     let folder = Folder::bench("refused_sets");
     let mut padded = common::bench_set();
-    padded[18 + 15] = 1;
+    padded[RECORD + 15] = 1;
     let mut long = common::bench_set();
-    long[18] = 16;
+    long[RECORD] = 16;
     let again = [common::bench_set(), record(b"ALM", 7)].concat();
     let cases: [(Vec<u8>, &str); 6] = [
-        (vec![], "refusal 1 place 0: the set has no bytes: it must have at least one record of 18 bytes"),
-        (vec![0; 19], "refusal 2 place 0: the set has 19 bytes, no multiple of 18: the file is cut short or is no keyword set"),
-        (vec![0; 65 * 18], "refusal 3 place 0: the set has 65 records, more than 64: split it"),
+        (vec![], "refusal 1 place 0: the set has no bytes: it must have at least one record of 20 bytes"),
+        (vec![0; 19], "refusal 2 place 0: the set has 19 bytes, no multiple of 20: the file is cut short or is no keyword set"),
+        (vec![0; 65 * 20], "refusal 3 place 0: the set has 65 records, more than 64: split it"),
         (long, "refusal 4 place 1: record 1 has the length 16, and a keyword has 1 to 15 bytes"),
         (padded, "refusal 5 place 1: record 1, keyword 41 4c 4d (ALM): the bytes behind the keyword, up to byte 15, must be zero"),
         (again, "refusal 6 place 3: record 3 has the same bytes as record 1, 41 4c 4d (ALM): take one of the two out"),

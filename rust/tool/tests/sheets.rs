@@ -6,7 +6,7 @@ use bezowik_tool::jobs::set::listed;
 use bezowik_tool::sets::{keywords, set_file};
 
 /// What a set must hold: words and energies, in order.
-type Words<'a> = &'a [(&'a [u8], u16)];
+type Words<'a> = &'a [(&'a [u8], u32)];
 
 /// The faults of a csv as the tool tells them of a file `f`, a line each.
 fn faults(csv: &[u8], text: bool) -> String {
@@ -18,7 +18,7 @@ fn faults(csv: &[u8], text: bool) -> String {
 fn check_taken(csv: &[u8], text: bool, words: Words, notes: usize) {
     let name = csv.escape_ascii();
     let sheet = keywords(csv, text).unwrap_or_else(|faults| panic!("{name}: {}", told("f", &faults)));
-    let found: Vec<(&[u8], u16)> = sheet.keywords.iter().map(|keyword| (&keyword.word[..], keyword.energy)).collect();
+    let found: Vec<(&[u8], u32)> = sheet.keywords.iter().map(|keyword| (&keyword.word[..], keyword.energy)).collect();
     assert_eq!((&found[..], sheet.notes.len()), (words, notes), "{name}");
     let records: Vec<u8> = words.iter().flat_map(|(word, energy)| record(word, *energy)).collect();
     assert_eq!(set_file(&sheet.keywords), records, "{name}");
@@ -78,8 +78,8 @@ fn taken_without_a_header() {
     check_taken(b"AD,1\nBEAD,2\n4c4d,3\n41,4\n", true, &[(b"AD", 1), (b"BEAD", 2), (b"4c4d", 3), (b"41", 4)], 0);
     check_taken(b"AD,1\nBE AD,2\n", true, &[(b"AD", 1), (b"BE AD", 2)], 0);
     check_taken(b"BE AD,2\nB0,1\n0xff,0\n", false, &[(&[0xbe, 0xad], 2), (&[0xb0], 1), (&[0xff], 0)], 0);
-    let odd: Words = &[(b"a b", 1), (b"-", 2), (b"\"", 3), (b"#x", 4), (b"=A1", 65535)];
-    check_taken(b"a b,1\n-,2\n\"\"\"\",3\n#x,4\n=A1,65535\n", true, odd, 1);
+    let odd: Words = &[(b"a b", 1), (b"-", 2), (b"\"", 3), (b"#x", 4), (b"=A1", 4294967295)];
+    check_taken(b"a b,1\n-,2\n\"\"\"\",3\n#x,4\n=A1,4294967295\n", true, odd, 1);
 }
 
 /// A column that a header names decides what letters are, and other columns may hold anything.
@@ -131,13 +131,13 @@ look whether it is what stood behind a decimal comma";
 #[test]
 fn listing() {
     let sheet =
-        keywords(b"hex,energy\n4c 4d,40\n\nad,65535\n2d,0\n20 22 5c 20,7\n4142,1\n", false).expect("it is right");
-    let expected = r#"no  line  bytes        text  energy pJ
- 0     2  4c 4d        LM           40
- 1     4  ad                     65535
- 2     5  2d           -             0
- 3     6  20 22 5c 20   "\           7
- 4     7  41 42        AB            1
+        keywords(b"hex,energy\n4c 4d,40\n\nad,4294967295\n2d,0\n20 22 5c 20,7\n4142,1\n", false).expect("it is right");
+    let expected = r#"no  line  bytes        text   energy pJ
+ 0     2  4c 4d        LM            40
+ 1     4  ad                 4294967295
+ 2     5  2d           -              0
+ 3     6  20 22 5c 20   "\            7
+ 4     7  41 42        AB             1
 "#;
     assert_eq!(listed(&sheet), format!("{expected}\nnote: line 7 has {ZEROS}\n"));
     let sheet = keywords(b"text,energy\nLM,40\n", false).expect("it is right");
@@ -249,7 +249,7 @@ fn cells_of_a_row() {
     };
     let header = "cell 4 holds `x`, and the header ends with column 2: name this one too, or empty it";
     let note = "the row has `here`, but no keyword and no energy: fill them in, or empty the whole row";
-    let empty = "the energy is empty: write picojoules, 0 to 65535";
+    let empty = "the energy is empty: write picojoules, 0 to 4294967295";
     let cases: [(&str, String); 16] = [
         ("4c4d,40,note\n", beyond(3, "note")),
         ("4c4d,40,,1\n", beyond(4, "1")),
@@ -348,8 +348,8 @@ fn text_faults() {
 fn energies() {
     let whole = format!("has a decimal comma or point: {WHOLE}");
     let digits = "is not a whole number of picojoules: write digits alone";
-    let high = "is too high: write picojoules, 0 to 65535";
-    let cases: [(&str, String); 18] = [
+    let high = "is too high: write picojoules, 0 to 4294967295";
+    let cases: [(&str, String); 20] = [
         ("40,5", format!("the energy `40,5` {whole}")),
         ("40.0", format!("the energy `40.0` {whole}")),
         ("1.234", format!("the energy `1.234` {whole}")),
@@ -365,8 +365,10 @@ fn energies() {
         ("\u{a0}40", format!("the energy `\\u{{a0}}40` {digits}")),
         ("40\n", format!("the energy `40\\n` {digits}")),
         ("٤٠", format!("the energy `٤٠` {digits}")),
-        ("", "the energy is empty: write picojoules, 0 to 65535".to_string()),
-        ("65536", format!("the energy `65536` {high}")),
+        ("", "the energy is empty: write picojoules, 0 to 4294967295".to_string()),
+        ("4294967296", format!("the energy `4294967296` {high}")),
+        (" 004294967296", format!("the energy ` 004294967296` {high}")),
+        ("18446744073709551616", format!("the energy `18446744073709551616` {high}")),
         ("99999999999999999999999", format!("the energy `99999999999999999999999` {high}")),
     ];
     for (energy, sentence) in cases {
@@ -375,7 +377,10 @@ fn energies() {
             assert_eq!(faults(csv.as_bytes(), text), format!("f line 2: {sentence}"), "{csv}");
         }
     }
-    check_taken(b"text,energy\nA,0\nB,65535\nC,\" 0065535 \"\n", false, &[(b"A", 0), (b"B", 65535), (b"C", 65535)], 0);
+    for most in [0, 255, 256, 65535, 65536, 16777216, 4294967294, 4294967295] {
+        let csv = format!("text,energy\nA,0\nB,{most}\nC,\" 00{most} \"\n");
+        check_taken(csv.as_bytes(), false, &[(b"A", 0), (b"B", most), (b"C", most)], 0);
+    }
     // a first row with such an energy is a keyword all the same
     for energy in ["40.5", "-4", "4E+01", "40 pJ", "\"\"\"40\"\"\""] {
         assert!(faults(format!("4c4d,{energy}\n").as_bytes(), false).starts_with("f line 1: the energy `"), "{energy}");

@@ -7,7 +7,7 @@ use std::collections::BTreeSet;
 use std::path::PathBuf;
 
 /// Words and energies of a set, in order.
-type Words = &'static [(&'static [u8], u16)];
+type Words = &'static [(&'static [u8], u32)];
 
 /// Lines, and what is wrong with each.
 type Sentences = Vec<(usize, String)>;
@@ -94,7 +94,7 @@ fn refused() -> Vec<(&'static str, bool, Sentences)> {
 fn taken_files() {
     for (name, text, words) in TAKEN {
         let sheet = sheet(name, text);
-        let found: Vec<(&[u8], u16)> =
+        let found: Vec<(&[u8], u32)> =
             sheet.keywords.iter().map(|keyword| (&keyword.word[..], keyword.energy)).collect();
         assert_eq!(found, words, "{name}");
         let records: Vec<u8> = words.iter().flat_map(|(word, energy)| record(word, *energy)).collect();

@@ -7,7 +7,7 @@ mod folder;
 
 use bezowik::sets::record;
 use common::{bench_set, BENCH_TRACE};
-use folder::{bench_table, Folder};
+use folder::{bench_table, old_bench_set, Folder};
 use std::collections::{BTreeMap, BTreeSet};
 use std::ffi::OsString;
 use std::os::unix::process::ExitStatusExt;
@@ -39,20 +39,28 @@ impl Job {
         let folder = Folder::new(test);
         folder.write("w.csv", b"text,energy\nLM,40\nALM,55\nLMLA,90\n");
         folder.write("w.bin", &bench_set());
+        folder.write("w-old.bin", &old_bench_set());
         folder.write("t.bin", BENCH_TRACE);
         let others = folder.listed();
         Job { folder, arguments, files, others }
     }
 
-    /// The command `set`, with an old set in its place or none.
+    /// The command `set`, with another set in its place or none.
     fn set(test: &str, there: bool) -> Job {
-        let old = there.then(|| record(b"OLD", 1));
+        let old = there.then(|| record(b"X", 1));
         Job::new(test, "set w.csv set.bin", vec![Written { name: "set.bin", old, new: bench_set() }])
     }
 
-    /// The command `tables`, with old tables in their places or none.
+    /// The command `convert`, with the old set in its place or none.
+    fn convert(test: &str, there: bool) -> Job {
+        let arguments = if there { "convert set.bin set.bin" } else { "convert w-old.bin set.bin" };
+        let old = there.then(old_bench_set);
+        Job::new(test, arguments, vec![Written { name: "set.bin", old, new: bench_set() }])
+    }
+
+    /// The command `tables`, with other tables in their places or none.
     fn tables(test: &str, there: bool) -> Job {
-        let old = bezowik::make(&record(b"OLD", 1)).expect("the set passes");
+        let old = bezowik::make(&record(b"X", 1)).expect("the set passes");
         let new = bench_table();
         let rows = Written { name: "rows.bin", old: there.then_some(old.rows), new: new.rows };
         let bytes = Written { name: "bytes.bin", old: there.then_some(old.bytes), new: new.bytes };
@@ -180,6 +188,16 @@ fn first_set_stopped() {
 }
 
 #[test]
+fn convert_stopped() {
+    Job::convert("convert_stopped", true).stop_everywhere(&[&[false], &[true]]);
+}
+
+#[test]
+fn first_convert_stopped() {
+    Job::convert("first_convert_stopped", false).stop_everywhere(&[&[false], &[true]]);
+}
+
+#[test]
 fn tables_stopped() {
     Job::tables("tables_stopped", true).stop_everywhere(&[&[false, false], &[true, false], &[true, true]]);
 }
@@ -191,8 +209,13 @@ fn first_tables_stopped() {
 
 #[test]
 fn set_on_a_failing_disk() {
-    for (test, there) in [("set_on_a_failing_disk", true), ("first_set_on_a_failing_disk", false)] {
-        let job = Job::set(test, there);
+    let jobs = [
+        Job::set("set_on_a_failing_disk", true),
+        Job::set("first_set_on_a_failing_disk", false),
+        Job::convert("convert_on_a_failing_disk", true),
+        Job::convert("first_convert_on_a_failing_disk", false),
+    ];
+    for job in jobs {
         let full = "cannot be written: No space left on device (os error 28)";
         job.fails_at("write:error=ENOSPC:when=1", &format!("set.bin: {full}"), &[false]);
         job.fails_at("write:error=ENOSPC:when=2", &format!("standard output: {full}"), &[true]);
@@ -233,7 +256,8 @@ fn tables_on_a_failing_disk() {
 /// A disk that stays full: the message cannot be written either, and the status tells.
 #[test]
 fn a_disk_that_stays_full() {
-    for job in [Job::set("set_that_stays", true), Job::tables("tables_that_stay", true)] {
+    let convert = Job::convert("convert_that_stays", true);
+    for job in [Job::set("set_that_stays", true), convert, Job::tables("tables_that_stay", true)] {
         let ran = job.disturbed("write:error=ENOSPC");
         assert_eq!(ran.status.code(), Some(2));
         assert!(job.state("a full disk").iter().all(|&new| !new));

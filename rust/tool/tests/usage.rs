@@ -10,14 +10,19 @@ use folder::Folder;
 fn help() {
     let folder = Folder::bench("help");
     let help = folder.done("--help");
-    for word in ["set", "tables", "check", "scan", "compare", "show", "explain", "completions"] {
+    for word in ["set", "convert", "tables", "check", "scan", "compare", "show", "explain", "completions"] {
         assert!(help.contains(&format!("\n  {word} ")), "{word}");
     }
     assert!(help.contains("Exit status: 0 done; 1 a refusal"), "{help}");
     assert_eq!(folder.done("-h"), help);
     let set = folder.done("set --help");
     assert!(set.contains("--text") && set.contains("--force") && set.contains("A first row names"), "{set}");
+    assert!(set.contains(&format!("0 to {}. ", bezowik::ENERGY)), "{set}");
     assert_eq!(folder.done("help set"), set);
+    let convert = folder.done("convert --help");
+    for word in ["<OLD.bin> <NEW.bin>", "--force", "18 bytes", "20 bytes", "convert set.bin set.bin", "180 bytes"] {
+        assert!(convert.contains(word), "{word}: {convert}");
+    }
     let explain = folder.done("explain --help");
     for word in ["--byte <BYTE>", "[SUFFIX]", "'4c 4d'", "'\"LM\"'", "''", "--byte 4c"] {
         assert!(explain.contains(word), "{word}: {explain}");
@@ -25,9 +30,10 @@ fn help() {
     assert_eq!(folder.done("--version"), concat!("bezowik ", env!("CARGO_PKG_VERSION"), "\n"));
     assert!(folder.fails(2, "").contains("Usage: bezowik <COMMAND>"));
     for shell in ["bash", "zsh", "fish"] {
-        assert!(folder.done(&format!("completions {shell}")).contains("compare"), "{shell}");
+        let completions = folder.done(&format!("completions {shell}"));
+        assert!(completions.contains("compare") && completions.contains("convert"), "{shell}");
     }
-    for told in help.lines().chain(set.lines()).chain(explain.lines()) {
+    for told in [help, set, convert, explain].iter().flat_map(|text| text.lines()) {
         assert!(told.chars().count() <= 100, "{told}");
     }
 }
@@ -41,6 +47,8 @@ fn misuse() {
         ("scna w.bin t.bin", "Did you mean 'scan'?"),
         ("scan w.bin t.bin --backwards rows.bin bytes.bin", "--backward"),
         ("set w.csv", "<SET.bin>"),
+        ("convert w.bin", "<NEW.bin>"),
+        ("convert w.bin n.bin b.bin", "b.bin"),
         ("tables w.bin r.bin", "<BYTES.bin>"),
         ("check w.bin rows.bin bytes.bin t.bin", "t.bin"),
         ("compare w.bin t.bin", "2 values"),
@@ -89,14 +97,17 @@ fn names_with_control_characters() {
     let name = "\u{1b}[31mx\u{202e}\u{7}\n.bin";
     let safe = "\\x1b[31mx\\u{202e}\\x07\\x0a.bin";
     folder.write(name, common::BENCH_TRACE);
+    folder.write("old.bin", &folder::old_bench_set());
     let bare = |text: &str| !text.chars().any(|c| (c.is_control() && c != '\n') || c == '\u{202e}');
-    let commands: [&[&str]; 12] = [
+    let commands: [&[&str]; 14] = [
         &["scan", "w.bin", name],
         &["scan", "w.bin", "t.bin", "--backward", name, "bytes.bin"],
         &["scan", name, "t.bin"],
         &["compare", "w.bin", "t.bin", name],
         &["check", "w.bin", name, "bytes.bin"],
         &["show", name],
+        &["convert", name, "n.bin"],
+        &["convert", "old.bin", name],
         &["explain", name, "4c"],
         &["explain", "w.bin", name],
         &["explain", "w.bin", "--byte", name],

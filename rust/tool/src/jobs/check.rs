@@ -3,21 +3,21 @@
 use super::{print_csv, print_json};
 use crate::arguments::{Check, Printed};
 use crate::faults::{audit, byte_shown, Audit, Fault};
-use crate::files::{distinct, read, read_tables, Input, Tables};
+use crate::files::{distinct, read_set, read_tables, Input, Tables};
 use crate::keywords::LEFT;
 use crate::kinds::{kind, Kind};
 use crate::records::DEPTHS;
 use crate::refusals::{accepted, Lent};
 use crate::text::{cells, columns, counted, hex, shell_name, shell_word, shown_name};
-use crate::{Done, Failure};
+use crate::{Done, Failure, Notes};
 use bezowik::Answer;
 use serde_json::{json, Value};
 use std::io::Write;
 
 /// The command. What the library answers decides; the faults are told beside it.
-pub fn run(asked: &Check, out: &mut dyn Write) -> Done {
+pub fn run(asked: &Check, out: &mut dyn Write, notes: &mut Notes) -> Done {
     distinct(&[&asked.set, &asked.rows, &asked.bytes], &[])?;
-    let set = read(&asked.set)?;
+    let set = read_set(&asked.set, notes)?;
     let tables = read_tables(&asked.rows, &asked.bytes)?;
     report(asked, &set, &tables, bezowik::check(&set.bytes, &tables.table), out)
 }

@@ -3,10 +3,10 @@
 use super::{print_csv, print_json};
 use crate::arguments::{Compare, Difference, Percent, Printed};
 use crate::counts;
-use crate::files::{distinct, read, read_trace};
+use crate::files::{distinct, read_set, read_trace};
 use crate::keywords::{as_csv, as_json, keywords, LEFT};
 use crate::text::{cells, columns, counted, percent, shown_name};
-use crate::{Done, Failure};
+use crate::{Done, Failure, Notes};
 use bezowik::sets::Keyword;
 use bezowik::{Answer, RECORD};
 use serde_json::{json, Value};
@@ -31,10 +31,10 @@ struct Line {
 }
 
 /// The command.
-pub fn run(asked: &Compare, out: &mut dyn Write) -> Done {
+pub fn run(asked: &Compare, out: &mut dyn Write, notes: &mut Notes) -> Done {
     let names = [&asked.set].into_iter().chain(&asked.builds);
     distinct(&names.map(PathBuf::as_path).collect::<Vec<_>>(), &[])?;
-    let set = read(&asked.set)?;
+    let set = read_set(&asked.set, notes)?;
     let mut builds = Vec::new();
     for (i, name) in asked.builds.iter().enumerate() {
         // the list of one build is gone before that of the next is made

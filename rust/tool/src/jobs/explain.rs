@@ -4,13 +4,13 @@ use super::tables::made;
 use crate::arguments::Explain;
 use crate::drawings::{bracketed, under};
 use crate::faults::byte_shown;
-use crate::files::{read, Input};
+use crate::files::{read_set, Input};
 use crate::keywords::keywords;
 use crate::records::{self, DEPTHS, EDGE, INNER};
 use crate::searches::{search, shortest, Found};
 use crate::text::{cells, columns, shown, shown_name, suffix};
 use crate::written::{self, in_quotes, inside_quotes};
-use crate::{Done, Failure};
+use crate::{Done, Failure, Notes};
 use bezowik::sets::Keyword;
 use bezowik::slow::{ends_within, holds_before};
 use bezowik::{Table, ROW};
@@ -26,11 +26,11 @@ const FAR_IS: &str = "the least n from 1 up such that some keyword has the byte 
 const CAP: &str = "the cap, m";
 
 /// The command. What is written wrong is told before a file is read, and nothing is printed unless all is found.
-pub fn run(asked: &Explain, out: &mut dyn Write) -> Done {
+pub fn run(asked: &Explain, out: &mut dyn Write, notes: &mut Notes) -> Done {
     let byte = asked.byte.as_deref().map(written::byte).transpose()?;
     let argument = asked.suffix.as_deref().unwrap_or_default();
     let wanted = written::suffix(argument)?;
-    let set = read(&asked.set)?;
+    let set = read_set(&asked.set, notes)?;
     let (table, keywords) = (made(&set)?, keywords(&set.bytes));
     let text = match byte {
         Some(byte) => of_byte(&keywords, &table, byte)?,

@@ -3,10 +3,10 @@
 use super::{print_csv, print_json};
 use crate::arguments::{Look, Order, Printed, Scan};
 use crate::counts::{self, Found};
-use crate::files::{distinct, read, read_tables, read_trace};
+use crate::files::{distinct, read_set, read_tables, read_trace};
 use crate::keywords::{as_csv, as_json, keywords, LEFT};
 use crate::text::{cells, columns, counted, percent, shown_name};
-use crate::Done;
+use crate::{Done, Notes};
 use bezowik::sets::Keyword;
 use serde_json::json;
 use std::cmp::Reverse;
@@ -22,10 +22,10 @@ struct Part {
 }
 
 /// The command.
-pub fn run(asked: &Scan, out: &mut dyn Write) -> Done {
+pub fn run(asked: &Scan, out: &mut dyn Write, notes: &mut Notes) -> Done {
     let names = [&asked.set, &asked.trace].into_iter().chain(asked.backward.iter().flatten());
     distinct(&names.map(PathBuf::as_path).collect::<Vec<_>>(), &[])?;
-    let (set, trace) = (read(&asked.set)?, read_trace(&asked.trace)?);
+    let (set, trace) = (read_set(&asked.set, notes)?, read_trace(&asked.trace)?);
     let tables = match asked.backward.as_deref() {
         Some([rows, bytes]) => Some(read_tables(rows, bytes)?),
         _ => None,

@@ -2,13 +2,13 @@
 
 use super::print_csv;
 use crate::arguments::Show;
-use crate::files::{read, Input};
+use crate::files::{read_set, Input};
 use crate::keywords::keywords;
 use crate::kinds::{kind, Kind};
 use crate::records::{suffix, DEPTHS, EDGE, INNER};
 use crate::refusals::{accepted, Lent};
 use crate::text::{cells, hex, shown_name, text};
-use crate::{Done, Failure};
+use crate::{Done, Failure, Notes};
 use bezowik::ROW;
 use std::io::Write;
 
@@ -17,8 +17,8 @@ pub const ROW_HEADS: [&str; 4] = ["row", "suffix", "inner", "edge"];
 pub const BYTE_HEAD: &str = "byte";
 
 /// The command.
-pub fn run(asked: &Show, out: &mut dyn Write) -> Done {
-    let file = read(&asked.file)?;
+pub fn run(asked: &Show, out: &mut dyn Write, notes: &mut Notes) -> Done {
+    let file = read_set(&asked.file, notes)?;
     match kind(&file.bytes) {
         Some(Kind::Set) => print_csv(set_lines(&file.bytes), out),
         Some(Kind::Rows) => print_csv(row_lines(&file.bytes), out),

@@ -2,26 +2,26 @@
 
 use crate::arguments::Tables;
 use crate::cells::told;
-use crate::files::{distinct, is_standard, read, Input};
+use crate::files::{distinct, is_standard, read, read_set, Input};
 use crate::kinds::Kind;
 use crate::outputs::{write, Output};
 use crate::refusals::{accepted, Lent};
 use crate::tabled::{byte_file, row_file};
 use crate::text::{counted, shown_name};
-use crate::{files, misuse, Done, Failure};
+use crate::{files, misuse, Done, Failure, Notes};
 use bezowik::{Table, BYTES, ROW};
 use std::io::Write;
 use std::path::{Path, PathBuf};
 
 /// The command.
-pub fn run(asked: &Tables, out: &mut dyn Write) -> Done {
+pub fn run(asked: &Tables, out: &mut dyn Write, notes: &mut Notes) -> Done {
     let (rows, bytes) = (asked.rows.as_path(), asked.bytes.as_path());
     if is_standard(rows) || is_standard(bytes) {
         return Err(misuse("two files are written, so that neither can be standard output"));
     }
     let from: Vec<&Path> = asked.from.iter().flatten().map(PathBuf::as_path).collect();
     distinct(&[&[asked.set.as_path()], &from[..]].concat(), &[rows, bytes])?;
-    let set = read(&asked.set)?;
+    let set = read_set(&asked.set, notes)?;
     let table = match from[..] {
         [row_csv, byte_csv] => taken(&set, row_csv, byte_csv)?,
         _ => made(&set)?,

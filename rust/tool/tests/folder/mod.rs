@@ -121,6 +121,21 @@ impl Drop for Folder {
     }
 }
 
+/// A keyword's record from before an energy had four bytes.
+pub fn old_record(word: &[u8], energy: u16) -> Vec<u8> {
+    let mut record = vec![0; 18];
+    record[0] = word.len() as u8;
+    record[1..1 + word.len()].copy_from_slice(word);
+    record[16] = (energy % 256) as u8;
+    record[17] = (energy / 256) as u8;
+    record
+}
+
+/// W as an old set.
+pub fn old_bench_set() -> Vec<u8> {
+    [old_record(b"LM", 40), old_record(b"ALM", 55), old_record(b"LMLA", 90)].concat()
+}
+
 /// W's table with the largest numbers.
 pub fn bench_table() -> Table {
     bezowik::make(&bench_set()).expect("W passes")
