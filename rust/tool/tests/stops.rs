@@ -208,7 +208,7 @@ fn first_tables_stopped() {
 }
 
 #[test]
-fn set_on_a_failing_disk() {
+fn set_and_convert_on_a_failing_disk() {
     let jobs = [
         Job::set("set_on_a_failing_disk", true),
         Job::set("first_set_on_a_failing_disk", false),

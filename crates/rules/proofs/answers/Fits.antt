@@ -1,6 +1,6 @@
 -- Nothing is lost in an answer's twenty bytes: a refusal's number and place are small because the table's are, and the
--- numbers of a job that is not refused because keywords, rows and trace are bounded. So each has its largest figure,
--- which its bytes can hold, and the bytes tell the answer.
+-- numbers of a job that is not refused because keywords, rows and trace are bounded. So each has a bound for which its
+-- bytes have room, and the bytes tell the answer.
 use Prim.Native.Nat.{ℕ, suc, _*_, _≤_, _<_}
 use native.Mathlib.Omega.{arith}
 use mathlib.Core.Path.{_≡_, refl}
@@ -23,7 +23,7 @@ use Rattle.rules.proofs.answers.Entering.{trace-passed, entry-passed}
 use Rattle.rules.proofs.answers.Refused.{Line, Tabled, file-rows, tabled-forward, tabled-backward, tabled-make, tabled-check, tabled-host}
 use Rattle.rules.proofs.answers.Answers.{Fits, answerBytes-injective}
 
--- The largest figures that an answer has. Those of a scan's count and energy occur: `totals-reached`.
+-- What each number of an answer is at most. A scan's count and energy can be just that: `totals-reached`.
 pub record Within (a : Told) : Type 0 where
   pub number : a .number ≤ 17
   pub place : a .place ≤ byteFileSize

@@ -75,7 +75,8 @@ nested-fifteen (suc n) =
     rw next (omega (arith, nested-fifteen n, endings-rise (keywords nested) (n + 15)))
 
 -- so each byte more has fifteen hits more
-hits-more : (ks : List Keyword) (n : ℕ) → length (hits ks (only (suc n))) ≡ length (hits ks (only n)) + length (endingAt ks (only (suc n)))
+hits-more : (ks : List Keyword) (n : ℕ)
+    → length (hits ks (only (suc n))) ≡ length (hits ks (only n)) + length (endingAt ks (only (suc n)))
 unfolding hitsAt
 hits-more ks n = rw (only-more n, hits-snoc ks (only n) A, length-append, length-map)
 
@@ -83,11 +84,15 @@ nested-many : (n : ℕ) → 120 + longestWord * n ≤ length (hits (keywords nes
 nested-many zero = omega (arith, nested-hits)
 nested-many (suc n) =
     let next : suc n + 15 ≡ suc (n + 15) = omega arith in
-    let here : longestWord ≤ length (endingAt (keywords nested) (only (suc (n + 15)))) = rw next at (nested-fifteen (suc n)) in
+    let here : longestWord ≤ length (endingAt (keywords nested) (only (suc (n + 15)))) =
+    rw next at (nested-fifteen (suc n)) in
     rw next (omega (arith, here, nested-many n, hits-more (keywords nested) (n + 15)))
 
 -- each of them passes where a search for one that does not finds none
-all-pass : {A : Type 0} (p : A → Bool) {l : List A} {a : A} → any (λ b. not (p b)) l ≡ false → List·Memᴰ a l → p a ≡ true
+all-pass : {A : Type 0} (p : A → Bool) {l : List A} {a : A}
+    → any (λ b. not (p b)) l ≡ false
+    → List·Memᴰ a l
+    → p a ≡ true
 all-pass p {a = a} none m = not-false (p a) (fails (not (p a)) (λ yes. never (any-mem (λ b. not (p b)) m yes) none))
 
 nested-sound : Sound (keywords nested)
@@ -97,7 +102,9 @@ nested-sound =
 nested-most : (k : Keyword) → List·Memᴰ k (keywords nested) → k .energy ≡ mostEnergy
 nested-most k m = eqb-true (k .energy) mostEnergy (all-pass (λ (k : Keyword). eqb (k .energy) mostEnergy) nested-dear m)
 
-energy-same : (hs : List Hit) → ((h : Hit) → List·Memᴰ h hs → h .keyword .energy ≡ mostEnergy) → energy hs ≡ mostEnergy * length hs
+energy-same : (hs : List Hit)
+    → ((h : Hit) → List·Memᴰ h hs → h .keyword .energy ≡ mostEnergy)
+    → energy hs ≡ mostEnergy * length hs
 unfolding energy
 energy-same [] each = omega arith
 energy-same (h ∷ hs) each = omega (arith, each h (List·Memᴰ·head refl), energy-same hs (λ g m. each g (List·Memᴰ·tail m)))

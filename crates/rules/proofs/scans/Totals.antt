@@ -55,7 +55,9 @@ module _ {ks : List Keyword} (sound : Sound ks) where
   unfolding hitsAt
   hitsAt-most u = rw length-map (omega (arith, endingAt-within u, endingAt-few sound u))
 
-  hitsAfter-most : (u t : List ℕ) (n : ℕ) → n ≡ length u + length t → length (hitsAfter ks u t) + mostIn (length u) ≤ mostIn n
+  hitsAfter-most : (u t : List ℕ) (n : ℕ)
+      → n ≡ length u + length t
+      → length (hitsAfter ks u t) + mostIn (length u) ≤ mostIn n
   unfolding hitsAfter mostIn
   hitsAfter-most u [] n e =
       let all : length u ≡ n = omega arith in
