@@ -1,6 +1,6 @@
 -- The hit list is the audit's: each part of the trace up to an end gives the keywords that end it, longest first, and
 -- the ends rise; and an order that never holds both ways leaves no other list.
-use Prim.Native.Nat.{ℕ, _+_, _*_, _≤_, _<_}
+use Prim.Native.Nat.{ℕ, zero, suc, _+_, _*_, _≤_, _<_, min}
 use native.Mathlib.Omega.{arith}
 use native.Mathlib.Nat.{not-suc-le-zero}
 use mathlib.Core.Path.{_≡_, refl, sym, _∙_, ap}
@@ -204,27 +204,49 @@ unfolding pairs
 pairs-length [] = refl
 pairs-length (h ∷ hs) = omega (arith, pairs-length hs)
 
--- how many there are at most: at one end one for each length
-pub endingAt-few : {ks : List Keyword} → Sound ks → (u : List ℕ) → length (endingAt ks u) ≤ longestWord
-endingAt-few {ks} sound u =
-    falling-few (λ (k : Keyword). length (k .word)) longestWord (endingAt-ordered sound u)
-    (λ k m. sound .filled k (endingAt-mem ks u m .0))
-    (λ k m. sound .short k (endingAt-mem ks u m .0))
+-- How many there are at most: at one end one for each length that a keyword has, and none longer than what was read.
+-- So in the first n bytes:
+unfoldable pub mostIn : ℕ → ℕ
+mostIn zero = 0
+mostIn (suc n) = min (suc n) longestWord + mostIn n
 
-pub hitsAt-few : {ks : List Keyword} → Sound ks → (u : List ℕ) → length (hitsAt ks u) ≤ longestWord
-unfolding hitsAt
-hitsAt-few {ks} sound u = rw length-map (endingAt-few sound u)
+pub mostIn-few : (n : ℕ) → mostIn n ≤ longestWord * n
+unfolding mostIn
+mostIn-few zero = omega arith
+mostIn-few (suc n) = omega (arith, mostIn-few n)
 
-pub hitsAfter-few : {ks : List Keyword} → Sound ks → (u t : List ℕ) → length (hitsAfter ks u t) ≤ longestWord * length t
-unfolding hitsAfter
-hitsAfter-few sound u [] = omega arith
-hitsAfter-few {ks} sound u (c ∷ t) =
-    let v : List ℕ = u ++ (c ∷ []) in
-    omega (arith, length-append (hitsAt ks v) (hitsAfter ks v t), hitsAt-few sound v, hitsAfter-few sound v t)
+module _ {ks : List Keyword} (sound : Sound ks) where
+  endingAt-most : (u : List ℕ) → length (endingAt ks u) ≤ min (length u) longestWord
+  endingAt-most u =
+      falling-few (λ (k : Keyword). length (k .word)) (min (length u) longestWord) (endingAt-ordered sound u)
+      (λ k m. sound .filled k (endingAt-mem ks u m .0))
+      (λ k m.
+      let w = endingAt-mem ks u m in
+      omega (arith, sound .short k (w .0), ap length (w .1 .1), length-append (w .1 .0) (k .word)))
 
-pub hits-few : {ks : List Keyword} → Sound ks → (t : List ℕ) → length (hits ks t) ≤ longestWord * length t
-unfolding hits
-hits-few sound t = hitsAfter-few sound [] t
+  hitsAt-most : (u : List ℕ) → length (hitsAt ks u) ≤ min (length u) longestWord
+  unfolding hitsAt
+  hitsAt-most u = rw length-map (endingAt-most u)
+
+  hitsAfter-most : (u t : List ℕ) (n : ℕ)
+      → n ≡ length u + length t
+      → length (hitsAfter ks u t) + mostIn (length u) ≤ mostIn n
+  unfolding hitsAfter mostIn
+  hitsAfter-most u [] n e =
+      let all : length u ≡ n = omega arith in
+      omega (arith, ap mostIn all)
+  hitsAfter-most u (c ∷ t) n e =
+      let v : List ℕ = u ++ (c ∷ []) in
+      let long : length v ≡ suc (length u) = omega (arith, length-append u (c ∷ [])) in
+      let below = hitsAfter-most v t n (omega (arith, long)) in
+      omega (arith, below, ap mostIn long, length-append (hitsAt ks v) (hitsAfter ks v t), hitsAt-most v)
+
+  pub hits-mostIn : (t : List ℕ) → length (hits ks t) ≤ mostIn (length t)
+  unfolding hits mostIn
+  hits-mostIn t = omega (arith, hitsAfter-most [] t (length t) (omega arith))
+
+  pub hits-few : (t : List ℕ) → length (hits ks t) ≤ longestWord * length t
+  hits-few t = omega (arith, hits-mostIn t, mostIn-few (length t))
 
 pub energy-most : (hs : List Hit) → ((h : Hit) → List·Memᴰ h hs → h .keyword .energy ≤ mostEnergy) → energy hs ≤ mostEnergy * length hs
 unfolding energy
