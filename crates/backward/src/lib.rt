@@ -1,4 +1,6 @@
 // The backward scan: windows read from their ends, moved on by the numbers of a table that was judged safe.
+#![tactic(auto)]
+
 ghost use Rattle.std.specs.Prelude.{◌≡◌, List, ◌++◌, ℕ, ◌<◌, length};
 ghost use Rattle.rules.specs.rows.Rows.{backward};
 ghost use Rattle.rules.specs.scans.Hits.{Hit};

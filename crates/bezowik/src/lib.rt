@@ -1,4 +1,6 @@
 // What the host compiler and the bench group call, as C functions over slices. Each needs no earlier check.
+#![tactic(auto)]
+
 pub mod answer; // answer.rt: an answer in its twenty bytes
 
 ghost use Rattle.rules.specs.answers.Promises.{Host};

@@ -1,4 +1,6 @@
 // The forward scan: every occurrence, found by one pass over the trace.
+#![tactic(auto)]
+
 ghost use Rattle.std.specs.Prelude.{List, [], ◌∷◌, ◌++◌, ℕ, length};
 ghost use Rattle.rules.specs.sets.Sets.{Keyword};
 ghost use Rattle.rules.specs.rows.Rows.{forward};

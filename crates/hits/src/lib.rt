@@ -1,4 +1,6 @@
 // The hits of a scan: counted always, listed while the lent buffer has room.
+#![tactic(auto)]
+
 ghost use Rattle.std.specs.Prelude.{List, [], ◌∷◌, ◌++◌, ℕ};
 ghost use Rattle.rules.specs.scans.Hits.{Hit};
 ghost use Rattle.words.specs.Items.{keywords_in};

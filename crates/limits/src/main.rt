@@ -1,5 +1,7 @@
 // The limits of a set's tests, a line a case: the refusal, or what a set that passed has. The file `stdout` has the
 // lines that document 01 asks for.
+#![tactic(auto)]
+
 ghost use Rattle.words.specs.Items.{Words, keywords_in};
 ghost use Rattle.rules.specs.Beside.{Sound};
 

@@ -1,4 +1,6 @@
 // The rows of keywords in a lent workspace: six numbers a row. Only this crate's code knows where a number lies.
+#![tactic(auto)]
+
 pub mod cells; // cells.rt: one number of a row
 pub mod tree; // tree.rt: the child question, and one row more
 pub mod build; // build.rt: the rows of keywords

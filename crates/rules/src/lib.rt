@@ -1,4 +1,5 @@
 // What document 01 counts with, and how its answers are put in Rattle.
+#![tactic(auto)]
 
 // The most keywords of a set, bytes of a keyword and bytes of a trace.
 pub const KEYWORDS: usize = 64;
@@ -26,7 +27,7 @@ pub const BYTES: usize = 4096;
 pub const ANSWER: usize = 20;
 
 // The way a keyword is read: from its first byte onwards, or from its last byte backwards.
-#[derive(Drop)]
+#[derive(Clone, Copy)]
 pub enum Way {
     Forward,
     Backward,

@@ -1,4 +1,6 @@
 // The small program: the forward scan of text.bin with set.bin, both in the working folder, printed.
+#![tactic(auto)]
+
 ghost use Rattle.std.specs.Prelude.{◌≤◌, length};
 
 use bezowik::answer::{Answer, from_scanned};

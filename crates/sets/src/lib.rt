@@ -1,5 +1,7 @@
 // The reader of a keyword set's bytes: the tests 1 to 6, and the keywords as words. Only this crate knows a record's
 // size and the places in it.
+#![tactic(auto)]
+
 ghost use Rattle.std.specs.Prelude.{◌≡◌, ◌+◌, ◌*◌, ◌<◌, ◌≤◌, length, get_or};
 ghost use Rattle.rules.specs.sets.Limits.{record_size, most_keywords, longest_word};
 ghost use Rattle.rules.specs.Beside.{keyword_at};

@@ -1,4 +1,6 @@
 // Skip tables: making the largest safe numbers, and checking that a lent table holds none above them.
+#![tactic(auto)]
+
 pub mod numbers; // numbers.rt: inner and edge of a suffix
 pub mod fars; // fars.rt: the far numbers of all bytes
 pub mod suffixes; // suffixes.rt: the backward rows in row order, and their records

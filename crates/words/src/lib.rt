@@ -1,5 +1,7 @@
 // The words: the keywords of a set as one list of 16-bit numbers, nineteen a keyword. What is behind the tests of a
 // set reads keywords from here alone, and only this crate knows where a number lies.
+#![tactic(auto)]
+
 ghost use Rattle.std.specs.Prelude.{◌≡◌, ◌+◌, ◌*◌, ◌<◌, ◌≤◌, length, take, get_or};
 ghost use mathlib.Core.List.{Memᴰ};
 ghost use Rattle.std.proofs.Math.Seq.{paste};

@@ -9,7 +9,7 @@ use borrow.Author.Tests.{eq-eqb, ne_eqb}
 use Rattle.rules.specs.strings.Strings.{same, any, first_or}
 use Rattle.rules.specs.sets.Sets.{Keyword, keywords_that_are, is_keyword}
 use Rattle.rules.specs.rows.Rows.{Way, read_by, key_of}
-use Rattle.rules.specs.scans.Audit.{Ordered, next}
+use Rattle.rules.specs.scans.Audit.{Ordered, none, next}
 use Rattle.rules.specs.Beside.{Sound, numbered}
 use Rattle.rules.proofs.strings.Strings.{either, never, passes, same_true, eq-same, any_mem}
 use Rattle.rules.proofs.scans.Dictionary.{is_keyword_true, keywords_that_are_none, keywords_that_are_one}
@@ -55,6 +55,7 @@ pub numbered_is : {ks : List Keyword} {k : Keyword}
     → Memᴰ k ks
     → numbered ks k.number ≡ k
 unfolding numbered first_or
+numbered_is {k = k} none m = elim m [ ]
 numbered_is {k = k} (next {a = l} first rest) (Memᴰ.head e) =
     let same_number : l.number ≡ k.number = ap (λ (m : Keyword). m.number) (sym e) in
     rw (eq-eqb l.number k.number same_number) (sym e)

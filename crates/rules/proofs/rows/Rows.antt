@@ -401,8 +401,8 @@ rowed-meet {R} rowed w =
 
 pub rowed_words : {R : List (List ℕ)} → Rowed R → (ws : List (List ℕ)) → Rowed (meet_words R ws)
 unfolding meet_words
-rowed_words rowed [] = rowed
-rowed_words rowed (w ∷ ws) = rowed_words (rowed-meet rowed w) ws
+rowed_words {R = R} rowed [] = rowed
+rowed_words {R = R} rowed (w ∷ ws) = rowed_words {R = meet R (prefixes w)} (rowed-meet rowed w) ws
 
 pub rowed_rows : (way : Way) (ks : List Keyword) → Rowed (rows_of way ks)
 unfolding rows_of
