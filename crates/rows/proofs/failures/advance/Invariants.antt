@@ -1,0 +1,14 @@
+-- What each turn keeps, and what falls.
+use Prim.Native.Nat.{ℕ, ◌+◌, ◌-◌}
+use native.Mathlib.Omega.{arith}
+use mathlib.Core.List.{List}
+use Rattle.rules.specs.sets.Limits.{longest_word}
+use Rattle.rows.specs.Falls.{Ready}
+use Rattle.rows.proofs.Chain.{Falling, falling_none, falling_more, falling_child, falling-root}
+use Rattle.rows.proofs.failures.advance.Given as goal
+
+abbrev pub invariant-loop-row : goal.invariant-loop-row
+invariant-loop-row l = (R : List (List ℕ)) (d : ℕ) → Ready R d l.row l.ws → Falling R l.row l.c l.at l.asked
+
+abbrev pub decreases-loop-row : goal.decreases-loop-row
+decreases-loop-row l = longest_word + 1 - l.asked

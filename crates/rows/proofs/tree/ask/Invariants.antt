@@ -1,0 +1,17 @@
+-- What each turn keeps, and what falls.
+use Prim.Native.Nat.{ℕ, ◌-◌, ◌≤◌, ◌<◌}
+use native.Mathlib.Omega.{arith}
+use mathlib.Core.Path.{sym, ◌∙◌}
+use mathlib.Core.List.{List, []}
+use lib.ListN.{length, get_or}
+use Rattle.rows.specs.Tree.{Tree, children_of}
+use Rattle.rows.proofs.Columns.{tree_room}
+use Rattle.rows.proofs.Walk.{Walk, walk_start, walk_none, Turn, walk_turn, walk-found, walk_on}
+use Rattle.rows.proofs.tree.ask.Given as goal
+
+abbrev pub invariant-loop-at : goal.invariant-loop-at
+invariant-loop-at l =
+    (R : List (List ℕ)) → Tree R l.ws → l.row < length R → Walk R (get_or R l.row []) l.c l.last l.compared l.at
+
+abbrev pub decreases-loop-at : goal.decreases-loop-at
+decreases-loop-at l = length l.ws - l.last

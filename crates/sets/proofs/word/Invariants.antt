@@ -1,0 +1,16 @@
+-- What each turn keeps, and what falls.
+use Prim.Native.Nat.{◌+◌, ◌-◌, ◌*◌}
+use mathlib.Core.Path.{sym}
+use native.Mathlib.Omega.{arith}
+use Rattle.rules.specs.sets.Limits.{record_size}
+use Rattle.rules.specs.sets.Sets.{keyword_of}
+use Rattle.rules.specs.Beside.{keyword_at}
+use Rattle.sets.proofs.Records.{word-length, word_at}
+use Rattle.sets.proofs.Gathered.{Gathered, gathered_none, gathered_more, gathered_all}
+use Rattle.sets.proofs.word.Given as goal
+
+abbrev pub invariant-loop-k : goal.invariant-loop-k
+invariant-loop-k l = Gathered (keyword_at l.set l.i).word l.units l.k
+
+abbrev pub decreases-loop-k : goal.decreases-loop-k
+decreases-loop-k l = l.n - l.k

@@ -1,0 +1,14 @@
+-- What each turn keeps, and what falls.
+use Prim.Native.Nat.{◌-◌}
+use native.Mathlib.Omega.{arith}
+use mathlib.Core.Path.{sym}
+use lib.ListN.{length}
+use Rattle.rules.proofs.strings.Parts.{ends-longer}
+use Rattle.words.proofs.Compared.{Ending, ending_none, ending_stop, ending_more, ending_all, first_stop, first_more}
+use Rattle.words.proofs.ends_with.Given as goal
+
+abbrev pub invariant-loop-k : goal.invariant-loop-k
+invariant-loop-k l = Ending l.string l.other l.from l.k
+
+abbrev pub decreases-loop-k : goal.decreases-loop-k
+decreases-loop-k l = length l.other - l.k

@@ -1,0 +1,9 @@
+-- The length is the second of a keyword's numbers, and at most fifteen.
+use mathlib.Core.Path.{sym, ◌∙◌}
+use native.Mathlib.Omega.{arith}
+use Rattle.words.proofs.Items.{word-length, has_short}
+use borrow.Author.Rules.{rules}
+use Rattle.words.proofs.length_of.Goals as goal
+
+pub returns : goal.returns
+returns c = (c.wide.ensures.0 ∙ sym (word-length c.requires), omega (arith, c.wide.ensures.0, has_short c.requires))

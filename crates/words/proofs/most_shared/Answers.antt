@@ -1,0 +1,32 @@
+-- The most is taken over the keywords passed, so at the end over all earlier ones.
+use Prim.Native.Nat.{◌-◌, ◌≤◌}
+use mathlib.Core.Path.{◌≡◌}
+use mathlib.Core.Logic.{⊎_elim}
+use native.Mathlib.Omega.{arith}
+use Rattle.words.specs.Items.{keywords_in}
+use Rattle.words.specs.Read.{way_of, read_at, earlier}
+use Rattle.words.proofs.Items.{has_at}
+use Rattle.words.proofs.Counted.{most_none, most_more}
+use Rattle.rules.specs.Beside.{most_common}
+use Rattle.words.proofs.most_shared.Goals as goal
+use Rattle.words.proofs.most_shared.Goals.{else-most-n, then-most-n}
+
+pub loop-j-init : goal.loop-j-init
+loop-j-init c = (omega arith, most_none _ _ _)
+
+pub shared-n-requires : goal.shared-n-requires
+shared-n-requires c =
+    let p = c.requires in
+    (has_at p.0.words (omega (arith, p.0.within)), p.0, p.1)
+
+pub loop-j-preserved : goal.loop-j-preserved
+loop-j-preserved c =
+    let a = c.args in
+    let ks = keywords_in a.words.now in
+    let more = most_more ks c.loop-j.j (omega (arith, c.requires.0.within)) (way_of a.way) (read_at (way_of a.way) ks a.i) in
+    elim c.if-most-n.branch [ then-most-n w ↦ omega (arith, more) | else-most-n w ↦ omega (arith, more) ]
+
+pub returns : goal.returns
+returns c =
+    let all : c.loop-j.j ≡ c.args.i = omega arith in
+    rw all at c.loop-j.invariant.1

@@ -1,0 +1,8 @@
+-- The number is the first of a keyword's.
+use mathlib.Core.Path.{sym, ◌∙◌}
+use Rattle.words.proofs.Items.{number_at}
+use borrow.Author.Rules.{rules}
+use Rattle.words.proofs.number_of.Goals as goal
+
+pub returns : goal.returns
+returns c = (c.wide.ensures.0 ∙ sym (number_at c.requires), c.wide.ensures.1)

@@ -1,0 +1,14 @@
+-- What each turn keeps, and what falls.
+use Prim.Native.Nat.{◌-◌}
+use native.Mathlib.Omega.{arith}
+use mathlib.Core.Path.{◌≡◌}
+use lib.ListN.{length}
+use Rattle.rules.specs.sets.Limits.{longest_word}
+use Rattle.rules.proofs.strings.Pasted.{Pasted, pasted_none, pasted_length, pasted_more}
+use Rattle.words.proofs.put_units.Given as goal
+
+abbrev pub invariant-loop-k : goal.invariant-loop-k
+invariant-loop-k l = Pasted l.initial.words l.from l.units l.words l.k
+
+abbrev pub decreases-loop-k : goal.decreases-loop-k
+decreases-loop-k l = longest_word - l.k

@@ -1,0 +1,57 @@
+-- No keyword passed has the units of the one at place i, so one that has them decides, and none does where all were
+-- passed.
+use Prim.Native.Nat.{◌-◌, ◌≤◌}
+use mathlib.Core.Path.{◌≡◌, sym, ◌∙◌}
+use mathlib.Core.Bool.{false}
+use borrow.Author.Rules.{rules}
+use lib.ListN.{take}
+use native.Mathlib.Omega.{arith}
+use Rattle.rules.specs.strings.Strings.{same}
+use Rattle.rules.specs.sets.Sets.{is_keyword}
+use Rattle.rules.specs.Beside.{no_keyword, nth}
+use Rattle.rules.proofs.strings.Searched.{none_passed, none_more, one_passes}
+use Rattle.words.specs.Items.{keywords_in}
+use Rattle.words.proofs.Items.{has_at}
+use Rattle.words.proofs.repeated.Goals as goal
+use Rattle.words.proofs.repeated.Goals.{After-same_string}
+
+pub units_of-word-requires : goal.units_of-word-requires
+units_of-word-requires c = c.requires
+
+pub loop-j-init : goal.loop-j-init
+unfolding is_keyword
+loop-j-init c = (omega arith, none_passed _ (keywords_in c.args.words.now))
+
+pub units_of-earlier-requires : goal.units_of-earlier-requires
+units_of-earlier-requires c =
+    let p = c.requires in
+    has_at p.words (omega (arith, p.within))
+
+-- the two strings compared are keywords
+compared : (c : After-same_string)
+    → let ks = keywords_in c.args.words.now in
+    c.same_string.result ≡ same (nth ks c.loop-j.j).word (nth ks c.args.i).word
+compared c =
+    c.same_string.ensures ∙ rw (c.units_of-earlier.ensures, c.units_of-word.ensures)
+
+pub returns-then-same_string : goal.returns-then-same_string
+unfolding is_keyword
+returns-then-same_string c =
+    let p = c.requires in
+    sym
+    (one_passes _ _ no_keyword _ _ c.loop-j-test.true (omega (arith, p.within))
+    (sym (compared (goal.at.returns-then-same_string c).After-same_string) ∙ c.if-same_string.true))
+
+pub loop-j-preserved : goal.loop-j-preserved
+unfolding is_keyword
+loop-j-preserved c =
+    let p = c.requires in (
+      omega arith,
+      none_more _ _ no_keyword c.loop-j.j (omega (arith, p.within)) c.loop-j.invariant.1
+          (sym (compared (goal.at.loop-j-preserved c).After-same_string) ∙ c.if-same_string.false),
+    )
+
+pub returns : goal.returns
+returns c =
+    let all : c.loop-j.j ≡ c.args.i = omega arith in
+    sym (rw all at c.loop-j.invariant.1)

@@ -1,0 +1,20 @@
+-- What each turn keeps, and what falls.
+use Prim.Native.Nat.{◌-◌, ◌≤◌}
+use mathlib.Core.Path.{◌≡◌, sym, ◌∙◌}
+use mathlib.Core.Bool.{false}
+use borrow.Author.Rules.{rules}
+use lib.ListN.{take}
+use native.Mathlib.Omega.{arith}
+use Rattle.rules.specs.strings.Strings.{same}
+use Rattle.rules.specs.sets.Sets.{is_keyword}
+use Rattle.rules.specs.Beside.{no_keyword, nth}
+use Rattle.rules.proofs.strings.Searched.{none_passed, none_more, one_passes}
+use Rattle.words.specs.Items.{keywords_in}
+use Rattle.words.proofs.Items.{has_at}
+use Rattle.words.proofs.repeated.Given as goal
+
+abbrev pub invariant-loop-j : goal.invariant-loop-j
+invariant-loop-j l = (l.j ≤ l.i) × (is_keyword (take l.j (keywords_in l.words)) (nth (keywords_in l.words) l.i).word ≡ false)
+
+abbrev pub decreases-loop-j : goal.decreases-loop-j
+decreases-loop-j l = l.i - l.j

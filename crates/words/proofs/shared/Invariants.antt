@@ -1,0 +1,19 @@
+-- What each turn keeps, and what falls.
+use Prim.Native.Nat.{◌-◌, ◌<◌}
+use mathlib.Core.Path.{◌≡◌, sym, ◌∙◌}
+use lib.ListN.{length}
+use native.Mathlib.Omega.{arith}
+use Rattle.words.specs.Items.{keywords_in}
+use Rattle.words.specs.Read.{way_of, read_at}
+use Rattle.words.proofs.Items.{read_length, word_some}
+use Rattle.words.proofs.Compared.{Agreed, agreed_none, agreed_left, agreed_right, agreed_stop, agreed_more}
+use Rattle.words.proofs.shared.Given as goal
+
+abbrev pub invariant-loop-k : goal.invariant-loop-k
+invariant-loop-k l =
+    (l.a ≡ length (read_at (way_of l.way) (keywords_in l.words) l.i))
+    × (l.b ≡ length (read_at (way_of l.way) (keywords_in l.words) l.j))
+    × Agreed (read_at (way_of l.way) (keywords_in l.words) l.i) (read_at (way_of l.way) (keywords_in l.words) l.j) l.k
+
+abbrev pub decreases-loop-k : goal.decreases-loop-k
+decreases-loop-k l = l.a - l.k
