@@ -11,7 +11,7 @@ ghost use Rattle.skips.specs.Suffixes.{stops_at, some_stops, largest_of};
 use words::{count_of, ends_with, units_of};
 
 // The two numbers of a suffix.
-#[derive(Drop)]
+#[derive(Clone, Copy)]
 pub(crate) enum Number {
     Inner,
     Edge,

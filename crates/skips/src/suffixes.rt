@@ -14,7 +14,7 @@ use rules::{ROW, Way};
 use words::{length_of, most_shared, units_of};
 
 // A row as a suffix: the last `depth` bytes of the keyword at a place.
-#[derive(Drop)]
+#[derive(Clone, Copy)]
 pub(crate) struct Place {
     pub keyword: usize,
     pub depth: usize,

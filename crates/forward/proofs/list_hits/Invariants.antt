@@ -1,0 +1,20 @@
+-- What each turn keeps, and what falls.
+use Prim.Native.Nat.{ℕ}
+use native.Mathlib.Omega.{arith}
+use mathlib.Core.Path.{◌≡◌, refl, sym, ◌∙◌}
+use mathlib.Core.Logic.{⊎_elim}
+use mathlib.Core.List.{List, [], ◌∷◌, ◌++◌}
+use lib.ListN.{length, length-append}
+use Rattle.forward.specs.Progress.{Equipped, Ending}
+use Rattle.forward.proofs.Endings.{string_at, Listing, at_state, row_room, dictionary_shorter, listing_own, listing_none, listing_key, listing_hit, listing_more, listing_all}
+use Rattle.forward.proofs.list_hits.Given as goal
+
+abbrev pub invariant-loop-at : goal.invariant-loop-at
+invariant-loop-at l =
+    (length l.hits ≡ length l.initial.hits)
+    × ((u : List ℕ) (b : ℕ) (old : List ℕ)
+    → Ending l.words u b old l.ws l.row l.end l.initial.next l.initial.hits
+    → Listing l.words (u ++ (b ∷ [])) old l.at l.next l.hits)
+
+abbrev pub decreases-loop-at : goal.decreases-loop-at
+decreases-loop-at l = length (string_at l.words l.at)
