@@ -9,7 +9,7 @@ ghost use Rattle.bezowik.specs.Calls.{told_of};
 use rules::{Counted, Refusal, Scanned};
 
 // An answer: number 0 is no refusal.
-#[derive(Drop)]
+#[derive(Clone, Copy)]
 pub struct Answer {
     pub number: u16,
     pub place: u16,

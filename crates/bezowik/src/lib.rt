@@ -1,4 +1,4 @@
-// What the host compiler and the bench group call, as C functions over slices. Each needs no earlier check.
+// What the host compiler and the bench group call, over slices; `bezowik_c` hands it to C. Each needs no earlier check.
 #![tactic(auto)]
 
 pub mod answer; // answer.rt: an answer in its twenty bytes
@@ -14,8 +14,7 @@ use skips::{check, make};
 
 // The cost of a trace: the forward scan's count, questions and energy, in an answer of twenty bytes. The result is
 // the refusal's number, or 0.
-#[unsafe(no_mangle)]
-pub extern "C" fn bezowik_cost(set: &[u8], trace: &[u8], answer: &mut [u8]) -> u16
+pub fn bezowik_cost(set: &[u8], trace: &[u8], answer: &mut [u8]) -> u16
     ensures { Host set.now trace.now answer.old result answer.new }
 {
     if answer.len() < ANSWER {
@@ -29,8 +28,7 @@ pub extern "C" fn bezowik_cost(set: &[u8], trace: &[u8], answer: &mut [u8]) -> u
 }
 
 // The forward scan, with the caller's workspace and hit buffer.
-#[unsafe(no_mangle)]
-pub extern "C" fn bezowik_forward(
+pub fn bezowik_forward(
     set: &[u8],
     trace: &[u8],
     workspace: &mut [u16],
@@ -49,8 +47,7 @@ pub extern "C" fn bezowik_forward(
 }
 
 // The backward scan under a lent table, which is checked at each call.
-#[unsafe(no_mangle)]
-pub extern "C" fn bezowik_backward(
+pub fn bezowik_backward(
     set: &[u8],
     trace: &[u8],
     row_file: &[u8],
@@ -73,8 +70,7 @@ pub extern "C" fn bezowik_backward(
 
 // Making skip tables: the largest safe numbers at the front of two buffers. The answer has the rows in the place of the
 // count.
-#[unsafe(no_mangle)]
-pub extern "C" fn bezowik_make(
+pub fn bezowik_make(
     set: &[u8],
     workspace: &mut [u16],
     row_buffer: &mut [u8],
@@ -94,8 +90,7 @@ pub extern "C" fn bezowik_make(
 }
 
 // The check of a skip table. The answer has the rows in the place of the count.
-#[unsafe(no_mangle)]
-pub extern "C" fn bezowik_check(
+pub fn bezowik_check(
     set: &[u8],
     row_file: &[u8],
     byte_file: &[u8],

@@ -34,7 +34,7 @@ pub enum Way {
 }
 
 // Why a call is refused. `number_and_place` in specs/answers/Answers.antt gives document 01's number and place of each.
-#[derive(Drop)]
+#[derive(Clone, Copy)]
 pub enum Refusal {
     SetEmpty,
     SetSize,
