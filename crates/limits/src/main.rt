@@ -7,6 +7,7 @@ ghost use Rattle.rules.specs.Beside.{Sound};
 
 use rules::{Counted, Refusal, Way};
 use sets::{RECORD, read};
+use std::io;
 use words::{ITEM, LIST, count_rows, energy_of, length_of, shortest_of, unit};
 
 // Room for 66 records.
@@ -51,11 +52,9 @@ fn put_energy(set: &mut [u8; SPACE], i: usize, a: u8, b: u8, c: u8, d: u8) {
 fn record(set: &mut [u8; SPACE], i: usize, len: u8, first: u8, step: u8) {
     put(set, place(i, 0), len);
     let mut b = first;
-    let mut k = 1;
-    while k < 16 {
+    for k in 1..16 {
         put(set, place(i, k), padded(k, len, b));
         b = after(b, step);
-        k += 1;
     }
     put_energy(set, i, 255, 255, 255, 255);
 }
@@ -65,20 +64,12 @@ fn family(len: u8, grow: u8, first: u8, rise: u8, step: u8) -> [u8; SPACE] {
     let mut set = [0u8; SPACE];
     let mut l = len;
     let mut b = first;
-    let mut i = 0;
-    while i < 66 {
+    for i in 0..66 {
         record(&mut set, i, l, b, step);
         l = after(l, grow);
         b = after(b, rise);
-        i += 1;
     }
     set
-}
-
-// A text and a number.
-fn say(text: &[u8], n: usize) {
-    io::write_all(1, text);
-    io::print_decimal(1, n as u64);
 }
 
 // The byte of the first keyword that is read first.
@@ -98,175 +89,183 @@ fn energy(words: &[u16]) -> usize
 
 // What a set that passed has: its keywords, its rows read forward and backward, its shortest keyword, and the energy,
 // the first and the last byte of its first keyword.
-fn passed(words: &[u16], n: usize)
+fn passed(rt: &HostRuntime, words: &[u16], n: usize) -> io::Result<()>
     requires { Words words.now × Sound (keywords_in words.now) }
 {
-    say(b": keywords ", n);
-    say(b" rows ", count_rows(words, Way::Forward));
-    say(b" ", count_rows(words, Way::Backward));
-    say(b" shortest ", shortest_of(words));
-    say(b" energy ", energy(words));
-    say(b" from ", outer(words, Way::Forward));
-    say(b" to ", outer(words, Way::Backward));
+    let forward = count_rows(words, Way::Forward);
+    let backward = count_rows(words, Way::Backward);
+    print!(rt; ": keywords {n} rows {forward} {backward}")?;
+    let shortest = shortest_of(words);
+    let figure = energy(words);
+    print!(rt; " shortest {shortest} energy {figure}")?;
+    let first = outer(words, Way::Forward);
+    let last = outer(words, Way::Backward);
+    print!(rt; " from {first} to {last}")
 }
 
 // A refusal's number and place.
-fn numbered(number: usize, record: usize) {
-    say(b": refusal ", number);
-    say(b" ", record);
+fn numbered(rt: &HostRuntime, number: usize, record: usize) -> io::Result<()> {
+    print!(rt; ": refusal {number} {record}")
 }
 
 // A refusal of the tests, which are 1 to 6.
-fn refused(fault: Refusal) {
+fn refused(rt: &HostRuntime, fault: Refusal) -> io::Result<()> {
     match fault {
-        Refusal::SetEmpty => numbered(1, 0),
-        Refusal::SetSize => numbered(2, 0),
-        Refusal::TooManyKeywords => numbered(3, 0),
-        Refusal::Length { record } => numbered(4, record as usize),
-        Refusal::Padding { record } => numbered(5, record as usize),
-        Refusal::Repeated { record } => numbered(6, record as usize),
-        _ => numbered(0, 0),
+        Refusal::SetEmpty => numbered(rt, 1, 0),
+        Refusal::SetSize => numbered(rt, 2, 0),
+        Refusal::TooManyKeywords => numbered(rt, 3, 0),
+        Refusal::Length { record } => numbered(rt, 4, record as usize),
+        Refusal::Padding { record } => numbered(rt, 5, record as usize),
+        Refusal::Repeated { record } => numbered(rt, 6, record as usize),
+        _ => numbered(rt, 0, 0),
     }
 }
 
 // The answer of the tests.
-fn answer(set: &[u8]) {
+fn answer(rt: &HostRuntime, set: &[u8]) -> io::Result<()> {
     let mut list = [0u16; LIST];
     let found = read(set, &mut list);
     match found {
         Counted::Number(n) => {
             let count = n as usize;
             let end = ITEM * count;
-            passed(&list[..end], count)
+            passed(rt, &list[..end], count)
         }
-        Counted::Refused(fault) => refused(fault),
+        Counted::Refused(fault) => refused(rt, fault),
     }
 }
 
 // A case: its name, and the answer to the first n bytes.
-fn case(name: &[u8], set: &[u8; SPACE], n: usize) {
-    io::write_all(1, name);
+fn case(rt: &HostRuntime, name: &str, set: &[u8; SPACE], n: usize) -> io::Result<()> {
+    print!(rt; "{name}")?;
     let bytes: &[u8] = set;
     if n <= bytes.len() {
-        answer(&bytes[..n]);
+        answer(rt, &bytes[..n])?;
     }
-    io::write_all(1, b"\n");
+    println!(rt;)
 }
 
 // How many records, and bytes that are no whole record.
-fn sizes() {
+fn sizes(rt: &HostRuntime) -> io::Result<()> {
     let set = family(1, 0, 0, 1, 0);
-    case(b"no bytes", &set, 0);
-    case(b"19 bytes", &set, RECORD - 1);
-    case(b"21 bytes", &set, RECORD + 1);
-    case(b"1 record", &set, RECORD);
-    case(b"1279 bytes", &set, 64 * RECORD - 1);
-    case(b"64 records", &set, 64 * RECORD);
-    case(b"1281 bytes", &set, 64 * RECORD + 1);
-    case(b"65 records", &set, 65 * RECORD);
-    case(b"65 records and a byte", &set, 65 * RECORD + 1);
+    case(rt, "no bytes", &set, 0)?;
+    case(rt, "19 bytes", &set, RECORD - 1)?;
+    case(rt, "21 bytes", &set, RECORD + 1)?;
+    case(rt, "1 record", &set, RECORD)?;
+    case(rt, "1279 bytes", &set, 64 * RECORD - 1)?;
+    case(rt, "64 records", &set, 64 * RECORD)?;
+    case(rt, "1281 bytes", &set, 64 * RECORD + 1)?;
+    case(rt, "65 records", &set, 65 * RECORD)?;
+    case(rt, "65 records and a byte", &set, 65 * RECORD + 1)
 }
 
 // The lengths about the limits, in the first record and in the last.
-fn lengths() {
+fn lengths(rt: &HostRuntime) -> io::Result<()> {
     let longest = family(15, 0, 1, 0, 1);
-    case(b"length 15", &longest, RECORD);
+    case(rt, "length 15", &longest, RECORD)?;
     let longer = family(16, 0, 1, 0, 1);
-    case(b"length 16", &longer, RECORD);
+    case(rt, "length 16", &longer, RECORD)?;
     let far = family(255, 0, 1, 0, 1);
-    case(b"length 255", &far, RECORD);
+    case(rt, "length 255", &far, RECORD)?;
     let mut none = family(1, 0, 0, 1, 0);
     put(&mut none, place(63, 0), 0);
-    case(b"length 0 in record 63", &none, 64 * RECORD);
+    case(rt, "length 0 in record 63", &none, 64 * RECORD)?;
     put(&mut none, place(0, 0), 0);
-    case(b"length 0", &none, RECORD);
+    case(rt, "length 0", &none, RECORD)
 }
 
 // The first and the last place behind a keyword, and what is no padding.
-fn paddings() {
+fn paddings(rt: &HostRuntime) -> io::Result<()> {
     let mut first = family(1, 0, 0, 1, 0);
     put(&mut first, place(0, 2), 1);
-    case(b"first padding byte", &first, RECORD);
+    case(rt, "first padding byte", &first, RECORD)?;
     let mut last = family(1, 0, 0, 1, 0);
     put(&mut last, place(63, 15), 255);
-    case(b"last padding byte of record 63", &last, 64 * RECORD);
+    case(rt, "last padding byte of record 63", &last, 64 * RECORD)?;
     put(&mut last, place(0, 15), 1);
-    case(b"last padding byte", &last, RECORD);
+    case(rt, "last padding byte", &last, RECORD)?;
     let mut only = family(14, 0, 1, 0, 1);
-    case(b"length 14", &only, RECORD);
+    case(rt, "length 14", &only, RECORD)?;
     put(&mut only, place(0, 15), 1);
-    case(b"its padding byte", &only, RECORD);
+    case(rt, "its padding byte", &only, RECORD)?;
     let mut figure = family(1, 0, 0, 1, 0);
     put_energy(&mut figure, 0, 1, 2, 3, 4);
-    case(b"energy is no padding", &figure, RECORD);
+    case(rt, "energy is no padding", &figure, RECORD)
 }
 
 // Zero is a byte of a keyword within its length.
-fn zeros() {
+fn zeros(rt: &HostRuntime) -> io::Result<()> {
     let set = family(1, 1, 0, 0, 0);
-    case(b"0 and 0 0", &set, 2 * RECORD);
-    case(b"up to 15 zeros", &set, 15 * RECORD);
+    case(rt, "0 and 0 0", &set, 2 * RECORD)?;
+    case(rt, "up to 15 zeros", &set, 15 * RECORD)?;
     let mut other = family(1, 0, 7, 0, 0);
     put(&mut other, place(1, 0), 2);
-    case(b"7 and 7 0", &other, 2 * RECORD);
+    case(rt, "7 and 7 0", &other, 2 * RECORD)
 }
 
 // A keyword that has come before, right behind it and far behind.
-fn repeats() {
+fn repeats(rt: &HostRuntime) -> io::Result<()> {
     let set = family(1, 0, 7, 0, 0);
-    case(b"record 1 as record 0", &set, 2 * RECORD);
+    case(rt, "record 1 as record 0", &set, 2 * RECORD)?;
     let mut far = family(1, 0, 0, 1, 0);
     put(&mut far, place(63, 1), 0);
-    case(b"record 63 as record 0", &far, 64 * RECORD);
+    case(rt, "record 63 as record 0", &far, 64 * RECORD)?;
     put(&mut far, place(63, 1), 62);
     put(&mut far, place(63, 19), 0);
-    case(b"record 63 as record 62, another energy", &far, 64 * RECORD);
+    case(
+        rt,
+        "record 63 as record 62, another energy",
+        &far,
+        64 * RECORD,
+    )
 }
 
 // The first fault in the order of the table, and of the records.
-fn several() {
+fn several(rt: &HostRuntime) -> io::Result<()> {
     let mut empty = family(1, 0, 0, 1, 0);
     put(&mut empty, place(0, 0), 0);
-    case(b"length 0 in 19 bytes", &empty, RECORD - 1);
-    case(b"length 0 in 65 records", &empty, 65 * RECORD);
+    case(rt, "length 0 in 19 bytes", &empty, RECORD - 1)?;
+    case(rt, "length 0 in 65 records", &empty, 65 * RECORD)?;
     put(&mut empty, place(0, 15), 1);
-    case(b"length 0 and padding", &empty, RECORD);
+    case(rt, "length 0 and padding", &empty, RECORD)?;
     let mut padding = family(1, 0, 7, 0, 0);
     put(&mut padding, place(1, 9), 1);
-    case(b"padding and record 1 as record 0", &padding, 2 * RECORD);
+    case(rt, "padding and record 1 as record 0", &padding, 2 * RECORD)?;
     put(&mut padding, place(1, 0), 16);
     put(&mut padding, place(0, 9), 1);
     case(
-        b"padding in record 0, length 16 in record 1",
+        rt,
+        "padding in record 0, length 16 in record 1",
         &padding,
         2 * RECORD,
-    );
+    )?;
     let mut same = family(1, 0, 7, 0, 0);
     put(&mut same, place(2, 0), 0);
     case(
-        b"record 1 as record 0, length 0 in record 2",
+        rt,
+        "record 1 as record 0, length 0 in record 2",
         &same,
         3 * RECORD,
-    );
+    )
 }
 
 // How many rows there are where keywords share nothing, a beginning or an end.
-fn rows() {
+fn rows(rt: &HostRuntime) -> io::Result<()> {
     let most = family(15, 0, 0, 1, 1);
-    case(b"64 of 15 bytes, nothing shared", &most, 64 * RECORD);
+    case(rt, "64 of 15 bytes, nothing shared", &most, 64 * RECORD)?;
     let up = family(1, 1, 1, 0, 1);
-    case(b"each begins the next", &up, 15 * RECORD);
+    case(rt, "each begins the next", &up, 15 * RECORD)?;
     let down = family(15, 255, 1, 0, 1);
-    case(b"each begins the one before", &down, 15 * RECORD);
+    case(rt, "each begins the one before", &down, 15 * RECORD)?;
     let behind = family(1, 1, 15, 255, 1);
-    case(b"each ends the next", &behind, 15 * RECORD);
+    case(rt, "each ends the next", &behind, 15 * RECORD)?;
     let mut two = family(15, 0, 1, 0, 1);
     put(&mut two, place(1, 15), 99);
-    case(b"14 of 15 bytes shared", &two, 2 * RECORD);
+    case(rt, "14 of 15 bytes shared", &two, 2 * RECORD)
 }
 
 // Document 01's set W: LM, ALM and LMLA.
-fn bench() {
+fn bench(rt: &HostRuntime) -> io::Result<()> {
     let mut set = family(2, 1, 76, 0, 1);
     put_energy(&mut set, 0, 40, 0, 0, 0);
     put(&mut set, place(1, 1), 65);
@@ -274,17 +273,17 @@ fn bench() {
     put(&mut set, place(1, 3), 77);
     put(&mut set, place(2, 3), 76);
     put(&mut set, place(2, 4), 65);
-    case(b"set W", &set, 3 * RECORD);
+    case(rt, "set W", &set, 3 * RECORD)
 }
 
 // All cases, a line each.
-fn main() {
-    sizes();
-    lengths();
-    paddings();
-    zeros();
-    repeats();
-    several();
-    rows();
-    bench();
+fn main(rt: HostRuntime) -> io::Result<()> {
+    sizes(&rt)?;
+    lengths(&rt)?;
+    paddings(&rt)?;
+    zeros(&rt)?;
+    repeats(&rt)?;
+    several(&rt)?;
+    rows(&rt)?;
+    bench(&rt)
 }
