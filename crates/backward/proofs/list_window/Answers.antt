@@ -1,12 +1,9 @@
 -- What is listed and the keywords not yet listed are all that the window met: each turn lists the one before the last
 -- listed.
-use Prim.Native.Nat.{ℕ, suc, ◌-◌, ◌≤◌, ◌<◌}
+use Prim.Native.Nat.{suc, ◌-◌, ◌<◌}
 use native.Mathlib.Omega.{arith}
 use mathlib.Core.Path.{◌≡◌, refl, ◌∙◌}
-use mathlib.Core.List.{List}
-use Rattle.rules.specs.scans.Hits.{Hit}
-use Rattle.backward.specs.Windowed.{Closing}
-use Rattle.backward.proofs.Closings.{Closed, closed_none, closed_hit, closed_more, closed_all}
+use Rattle.backward.proofs.Closings.{closed_none, closed_hit, closed_more, closed_all}
 use Rattle.backward.proofs.list_window.Goals as goal
 
 pub loop-left-init : goal.loop-left-init

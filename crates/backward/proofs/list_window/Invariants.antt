@@ -1,11 +1,10 @@
 -- What each turn keeps, and what falls.
-use Prim.Native.Nat.{ℕ, suc, ◌-◌, ◌≤◌, ◌<◌}
-use native.Mathlib.Omega.{arith}
-use mathlib.Core.Path.{◌≡◌, refl, ◌∙◌}
+use Prim.Native.Nat.{ℕ, ◌≤◌}
+use mathlib.Core.Path.{◌≡◌}
 use mathlib.Core.List.{List}
 use Rattle.rules.specs.scans.Hits.{Hit}
 use Rattle.backward.specs.Windowed.{Closing}
-use Rattle.backward.proofs.Closings.{Closed, closed_none, closed_hit, closed_more, closed_all}
+use Rattle.backward.proofs.Closings.{Closed}
 use Rattle.backward.proofs.list_window.Given as goal
 
 abbrev pub invariant-loop-left : goal.invariant-loop-left

@@ -1,8 +1,6 @@
 -- Each number is read at its place in a file, and the comparisons take the lesser and the greater.
 use native.Mathlib.Omega.{arith}
-use mathlib.Core.Logic.{⊎_elim}
 use Rattle.backward.proofs.Moves.{move_in-start, move_in_missing}
-use borrow.Author.Rules.{rules}
 use Rattle.backward.proofs.move_on.Goals as goal
 use Rattle.backward.proofs.move_on.Goals.{else-inner-far, then-inner-far}
 

@@ -1,17 +1,15 @@
 -- What is found and what the windows ahead will find are all the hits; in each window the byte loop follows the
 -- definition's.
-use Prim.Native.Nat.{suc, ◌-◌, ◌<◌}
+use Prim.Native.Nat.{◌<◌}
 use native.Mathlib.Omega.{arith}
 use mathlib.Core.Path.{refl, sym, ◌∙◌}
-use mathlib.Core.Logic.{⊎_elim}
 use mathlib.Core.List.{[]}
-use lib.ListN.{length, get_or}
-use borrow.Author.Rules.{rules}
+use lib.ListN.{get_or}
 use Rattle.rules.specs.sets.Limits.{longest_word, opcodes}
 use Rattle.rows.specs.Tree.{Answered}
 use Rattle.backward.specs.Windowed.{Safe}
-use Rattle.backward.proofs.Reached.{rows_in, last_of, Reached, Stopped, reached_none, reached_within, child_room, child_free, reached_more, reached_key, stopped-start, stopped_missing}
-use Rattle.backward.proofs.Visits.{Underway, first_room, underway_none, underway_few, underway-length, underway_all, underway_more, window_closing, window_moving, window_some}
+use Rattle.backward.proofs.Reached.{rows_in, last_of, Stopped, reached_none, reached_within, child_room, child_free, reached_more, reached_key, stopped-start, stopped_missing}
+use Rattle.backward.proofs.Visits.{first_room, underway_none, underway_few, underway-length, underway_all, underway_more, window_closing, window_moving, window_some}
 use Rattle.backward.proofs.run.Goals as goal
 use Rattle.backward.proofs.run.Goals.{After-ask-found, After-wide-byte, At-loop-end, Else-next-eq0, Joined-left-eq0, then-left-eq0, else-left-eq0+then-next-eq0}
 

@@ -1,16 +1,8 @@
 -- What each turn keeps, and what falls.
-use Prim.Native.Nat.{suc, ◌-◌, ◌<◌}
-use native.Mathlib.Omega.{arith}
-use mathlib.Core.Path.{refl, sym, ◌∙◌}
-use mathlib.Core.Logic.{⊎_elim}
-use mathlib.Core.List.{[]}
+use Prim.Native.Nat.{suc, ◌-◌}
 use lib.ListN.{length, get_or}
-use borrow.Author.Rules.{rules}
-use Rattle.rules.specs.sets.Limits.{longest_word, opcodes}
-use Rattle.rows.specs.Tree.{Answered}
-use Rattle.backward.specs.Windowed.{Safe}
-use Rattle.backward.proofs.Reached.{rows_in, last_of, Reached, Stopped, reached_none, reached_within, child_room, child_free, reached_more, reached_key, stopped-start, stopped_missing}
-use Rattle.backward.proofs.Visits.{Underway, first_room, underway_none, underway_few, underway-length, underway_all, underway_more, window_closing, window_moving, window_some}
+use Rattle.backward.proofs.Reached.{Reached}
+use Rattle.backward.proofs.Visits.{Underway}
 use Rattle.backward.proofs.run.Given as goal
 
 abbrev pub invariant-bytes : goal.invariant-bytes

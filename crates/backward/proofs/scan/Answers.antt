@@ -5,7 +5,6 @@ use Rattle.rules.specs.declared.Counted.{Counted}
 use Rattle.sets.specs.Reading.{Read}
 use Rattle.sets.proofs.Opened.{opened, opened_room, refused}
 use Rattle.backward.proofs.Outcomes.{backward_read, backward_unread}
-use borrow.Author.Rules.{rules}
 use Rattle.backward.proofs.scan.Goals as goal
 use Rattle.backward.proofs.scan.Goals.{In-Number, In-Refused}
 

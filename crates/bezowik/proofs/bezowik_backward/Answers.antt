@@ -2,7 +2,6 @@
 -- what is written.
 use Rattle.bezowik.specs.Calls.{told_of}
 use Rattle.bezowik.proofs.Telling.{backward_short, backward_called}
-use borrow.Author.Rules.{rules}
 use Rattle.bezowik.proofs.bezowik_backward.Goals as goal
 
 pub returns-then-answer-lt-ANSWER : goal.returns-then-answer-lt-ANSWER

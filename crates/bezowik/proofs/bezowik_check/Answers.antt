@@ -2,7 +2,6 @@
 -- written.
 use Rattle.bezowik.specs.Calls.{told_of}
 use Rattle.bezowik.proofs.Telling.{check_short, check_called}
-use borrow.Author.Rules.{rules}
 use Rattle.bezowik.proofs.bezowik_check.Goals as goal
 
 pub returns-then-answer-lt-ANSWER : goal.returns-then-answer-lt-ANSWER

@@ -3,7 +3,6 @@
 use native.Mathlib.Omega.{arith}
 use Rattle.bezowik.specs.Calls.{told_of}
 use Rattle.bezowik.proofs.Telling.{host_short, host-told}
-use borrow.Author.Rules.{rules}
 use Rattle.bezowik.proofs.bezowik_cost.Goals as goal
 
 pub returns-then-answer-lt-ANSWER : goal.returns-then-answer-lt-ANSWER

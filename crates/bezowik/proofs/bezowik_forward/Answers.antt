@@ -2,7 +2,6 @@
 -- is written.
 use Rattle.bezowik.specs.Calls.{told_of}
 use Rattle.bezowik.proofs.Telling.{forward_short, forward_called}
-use borrow.Author.Rules.{rules}
 use Rattle.bezowik.proofs.bezowik_forward.Goals as goal
 
 pub returns-then-answer-lt-ANSWER : goal.returns-then-answer-lt-ANSWER

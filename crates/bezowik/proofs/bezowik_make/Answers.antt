@@ -1,7 +1,6 @@
 -- A short answer is refused before anything is touched; else making's promise holds, and its answer is what is written.
 use Rattle.bezowik.specs.Calls.{told_of}
 use Rattle.bezowik.proofs.Telling.{make_short, make_called}
-use borrow.Author.Rules.{rules}
 use Rattle.bezowik.proofs.bezowik_make.Goals as goal
 
 pub returns-then-answer-lt-ANSWER : goal.returns-then-answer-lt-ANSWER

@@ -1,5 +1,4 @@
 -- Before the first byte nothing is found, and the empty string is row 0.
-use borrow.Author.Rules.{rules}
 use Rattle.forward.proofs.States.{scanning_none}
 use Rattle.forward.proofs.fresh.Goals as goal
 

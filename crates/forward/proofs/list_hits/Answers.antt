@@ -1,12 +1,10 @@
 -- What is listed and what still ends the row's string are all the hits, along the dictionary rows down to row 0.
-use Prim.Native.Nat.{ℕ}
 use native.Mathlib.Omega.{arith}
-use mathlib.Core.Path.{◌≡◌, refl, sym, ◌∙◌}
-use mathlib.Core.Logic.{⊎_elim}
-use mathlib.Core.List.{List, [], ◌∷◌, ◌++◌}
-use lib.ListN.{length, length-append}
-use Rattle.forward.specs.Progress.{Equipped, Ending}
-use Rattle.forward.proofs.Endings.{string_at, Listing, at_state, row_room, dictionary_shorter, listing_own, listing_none, listing_key, listing_hit, listing_more, listing_all}
+use mathlib.Core.Path.{refl, sym, ◌∙◌}
+use mathlib.Core.List.{[], ◌∷◌, ◌++◌}
+use lib.ListN.{length-append}
+use Rattle.forward.specs.Progress.{Equipped}
+use Rattle.forward.proofs.Endings.{Listing, at_state, row_room, dictionary_shorter, listing_own, listing_none, listing_key, listing_hit, listing_more, listing_all}
 use Rattle.forward.proofs.list_hits.Goals as goal
 use Rattle.forward.proofs.list_hits.Goals.{At-loop-at, then-key-eq0, else-key-eq0}
 

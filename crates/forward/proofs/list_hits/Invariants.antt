@@ -1,12 +1,10 @@
 -- What each turn keeps, and what falls.
 use Prim.Native.Nat.{ℕ}
-use native.Mathlib.Omega.{arith}
-use mathlib.Core.Path.{◌≡◌, refl, sym, ◌∙◌}
-use mathlib.Core.Logic.{⊎_elim}
+use mathlib.Core.Path.{◌≡◌}
 use mathlib.Core.List.{List, [], ◌∷◌, ◌++◌}
-use lib.ListN.{length, length-append}
-use Rattle.forward.specs.Progress.{Equipped, Ending}
-use Rattle.forward.proofs.Endings.{string_at, Listing, at_state, row_room, dictionary_shorter, listing_own, listing_none, listing_key, listing_hit, listing_more, listing_all}
+use lib.ListN.{length}
+use Rattle.forward.specs.Progress.{Ending}
+use Rattle.forward.proofs.Endings.{string_at, Listing}
 use Rattle.forward.proofs.list_hits.Given as goal
 
 abbrev pub invariant-loop-at : goal.invariant-loop-at

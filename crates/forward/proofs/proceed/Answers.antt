@@ -1,12 +1,9 @@
 -- The bytes are read one by one, so after each the scan has found what all of them up to it hold.
-use Prim.Native.Nat.{ℕ, ◌-◌, ◌≤◌}
 use native.Mathlib.Omega.{arith}
-use mathlib.Core.Path.{◌≡◌, refl, ◌∙◌}
-use mathlib.Core.List.{List, ◌++◌}
-use lib.ListN.{length, take}
+use mathlib.Core.Path.{refl, ◌∙◌}
+use mathlib.Core.List.{◌++◌}
+use lib.ListN.{take}
 use lib.Seq.{take_all}
-use Rattle.words.specs.Items.{keywords_in}
-use Rattle.forward.specs.Progress.{Scanning, Going}
 use Rattle.forward.proofs.States.{bytes_none, bytes_going, bytes_more}
 use Rattle.forward.proofs.proceed.Goals as goal
 

@@ -1,13 +1,10 @@
 -- What each turn keeps, and what falls.
 use Prim.Native.Nat.{ℕ, ◌-◌, ◌≤◌}
-use native.Mathlib.Omega.{arith}
-use mathlib.Core.Path.{◌≡◌, refl, ◌∙◌}
+use mathlib.Core.Path.{◌≡◌}
 use mathlib.Core.List.{List, ◌++◌}
 use lib.ListN.{length, take}
-use lib.Seq.{take_all}
 use Rattle.words.specs.Items.{keywords_in}
 use Rattle.forward.specs.Progress.{Scanning, Going}
-use Rattle.forward.proofs.States.{bytes_none, bytes_going, bytes_more}
 use Rattle.forward.proofs.proceed.Given as goal
 
 abbrev pub invariant-loop-i : goal.invariant-loop-i

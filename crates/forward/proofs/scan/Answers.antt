@@ -5,7 +5,6 @@ use Rattle.rules.specs.declared.Counted.{Counted}
 use Rattle.sets.specs.Reading.{Read}
 use Rattle.sets.proofs.Opened.{opened, opened_room, refused}
 use Rattle.forward.proofs.Outcomes.{forward_read, forward_unread}
-use borrow.Author.Rules.{rules}
 use Rattle.forward.proofs.scan.Goals as goal
 use Rattle.forward.proofs.scan.Goals.{In-Number, In-Refused}
 

@@ -3,7 +3,6 @@ use native.Mathlib.Omega.{arith}
 use mathlib.Core.Path.{◌≡◌}
 use mathlib.Core.List.{[]}
 use lib.ListN.{length}
-use borrow.Author.Rules.{rules}
 use Rattle.rules.specs.declared.Counted.{Counted}
 use Rattle.rules.specs.rows.Rows.{forward}
 use Rattle.rules.proofs.answers.Entering.{Entry, entry_passed}

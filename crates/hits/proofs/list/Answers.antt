@@ -2,9 +2,7 @@
 use Prim.Native.Nat.{ℕ, ◌+◌}
 use native.Mathlib.Omega.{arith}
 use mathlib.Core.Path.{◌≡◌, refl, ◌∙◌, ap}
-use mathlib.Core.Logic.{⊎_elim}
 use lib.ListN.{length, length-set}
-use borrow.Author.Rules.{rules}
 use Rattle.rules.specs.scans.Hits.{Hit}
 use Rattle.words.specs.Items.{keywords_in}
 use Rattle.hits.specs.Tallies.{hit_of}

@@ -2,7 +2,6 @@
 use native.Mathlib.Omega.{arith}
 use mathlib.Core.Path.{◌≡◌, sym, ◌∙◌, ap}
 use lib.ListN.{length}
-use borrow.Author.Rules.{rules}
 use Rattle.rules.specs.answers.Refusals.{pass, entry_verdict}
 use Rattle.rules.proofs.rows.Most.{rows_few}
 use Rattle.rules.proofs.answers.Entering.{entry_passed}

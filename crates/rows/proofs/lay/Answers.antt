@@ -1,8 +1,7 @@
 -- The backward rows are complete once they are built, and the forward rows once their failures are filled.
 use mathlib.Core.Path.{◌≡◌, ap}
 use lib.ListN.{length}
-use borrow.Author.Rules.{rules}
-use Rattle.rules.specs.rows.Rows.{Way, forward, backward, rows_of}
+use Rattle.rules.specs.rows.Rows.{forward, backward, rows_of}
 use Rattle.words.specs.Items.{keywords_in}
 use Rattle.words.specs.Read.{way_of}
 use Rattle.rows.specs.Builds.{Built}

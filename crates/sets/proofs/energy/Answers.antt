@@ -1,7 +1,6 @@
 -- The energy stands in the last four bytes of the record, in two halves, the low one first.
 use native.Mathlib.Omega.{arith}
 use Rattle.sets.proofs.Records.{energy_at}
-use borrow.Author.Rules.{rules}
 use Rattle.sets.proofs.energy.Goals as goal
 
 pub returns : goal.returns

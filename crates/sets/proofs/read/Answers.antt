@@ -1,15 +1,14 @@
 -- The records before the one at hand passed and their keywords are kept, so the first fault of the next one is the
 -- file's.
-use Prim.Native.Nat.{◌+◌, ◌-◌, ◌/◌, ◌≤◌}
+use Prim.Native.Nat.{◌+◌, ◌/◌}
 use mathlib.Core.Path.{◌≡◌, refl, sym, ◌∙◌, ap}
 use lib.ListN.{length}
 use native.Mathlib.Omega.{arith}
-use borrow.Author.Rules.{rules}
 use Rattle.rules.specs.sets.Limits.{record_size}
 use Rattle.rules.specs.answers.Answers.{told_count, told_counted}
 use Rattle.rules.proofs.answers.Refused.{numbered_record}
 use Rattle.rules.proofs.answers.Counts.{counted_number, counted_refused}
-use Rattle.sets.proofs.Files.{Records, records_none, records_more, read_empty, read_size, read_many, read_fault, read_all}
+use Rattle.sets.proofs.Files.{records_none, records_more, read_empty, read_size, read_many, read_fault, read_all}
 use Rattle.sets.proofs.read.Goals as goal
 
 pub returns-then-size-eq0 : goal.returns-then-size-eq0

@@ -10,7 +10,6 @@ use Rattle.sets.specs.Reading.{Reading}
 use Rattle.sets.proofs.Judged.{judged_empty, judged-long, judged_padding, judged_repeated, judged_pass}
 use Rattle.sets.proofs.Keeping.{kept-begins, kept_has, kept_repeated}
 use Rattle.sets.proofs.Files.{record_refused, record-kept}
-use borrow.Author.Rules.{rules}
 use Rattle.rules.specs.Beside.{keyword_at}
 use Rattle.sets.proofs.read_record.Goals as goal
 use Rattle.sets.proofs.read_record.Goals.{After-put}

@@ -1,7 +1,6 @@
 -- The padding bytes passed are zeros, so the bytes from k on decide.
-use Prim.Native.Nat.{◌-◌}
 use native.Mathlib.Omega.{arith}
-use Rattle.sets.proofs.Padding.{Padded, padded_none, padded_all, padded_stop, padded_more}
+use Rattle.sets.proofs.Padding.{padded_none, padded_all, padded_stop, padded_more}
 use Rattle.sets.proofs.unpadded.Goals as goal
 
 pub loop-k-init : goal.loop-k-init

@@ -1,7 +1,6 @@
 -- What each turn keeps, and what falls.
 use Prim.Native.Nat.{◌-◌}
-use native.Mathlib.Omega.{arith}
-use Rattle.sets.proofs.Padding.{Padded, padded_none, padded_all, padded_stop, padded_more}
+use Rattle.sets.proofs.Padding.{Padded}
 use Rattle.sets.proofs.unpadded.Given as goal
 
 abbrev pub invariant-loop-k : goal.invariant-loop-k

@@ -1,12 +1,12 @@
 -- The array holds the units passed and zeros behind, so at the end the keyword.
-use Prim.Native.Nat.{◌+◌, ◌-◌, ◌*◌}
+use Prim.Native.Nat.{◌+◌, ◌*◌}
 use mathlib.Core.Path.{sym}
 use native.Mathlib.Omega.{arith}
 use Rattle.rules.specs.sets.Limits.{record_size}
 use Rattle.rules.specs.sets.Sets.{keyword_of}
 use Rattle.rules.specs.Beside.{keyword_at}
 use Rattle.sets.proofs.Records.{word-length, word_at}
-use Rattle.sets.proofs.Gathered.{Gathered, gathered_none, gathered_more, gathered_all}
+use Rattle.sets.proofs.Gathered.{gathered_none, gathered_more, gathered_all}
 use Rattle.sets.proofs.word.Goals as goal
 
 pub loop-k-init : goal.loop-k-init

@@ -1,12 +1,7 @@
 -- What each turn keeps, and what falls.
-use Prim.Native.Nat.{◌+◌, ◌-◌, ◌*◌}
-use mathlib.Core.Path.{sym}
-use native.Mathlib.Omega.{arith}
-use Rattle.rules.specs.sets.Limits.{record_size}
-use Rattle.rules.specs.sets.Sets.{keyword_of}
+use Prim.Native.Nat.{◌-◌}
 use Rattle.rules.specs.Beside.{keyword_at}
-use Rattle.sets.proofs.Records.{word-length, word_at}
-use Rattle.sets.proofs.Gathered.{Gathered, gathered_none, gathered_more, gathered_all}
+use Rattle.sets.proofs.Gathered.{Gathered}
 use Rattle.sets.proofs.word.Given as goal
 
 abbrev pub invariant-loop-k : goal.invariant-loop-k

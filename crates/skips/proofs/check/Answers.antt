@@ -5,7 +5,6 @@ use Rattle.rules.specs.declared.Counted.{Counted}
 use Rattle.sets.specs.Reading.{Read}
 use Rattle.sets.proofs.Opened.{opened, opened_room, refused}
 use Rattle.skips.proofs.Outcomes.{check_read, check_unread}
-use borrow.Author.Rules.{rules}
 use Rattle.skips.proofs.check.Goals as goal
 use Rattle.skips.proofs.check.Goals.{In-Number, In-Refused}
 

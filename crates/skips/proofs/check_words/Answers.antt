@@ -6,7 +6,6 @@ use Rattle.words.specs.Read.{way_of}
 use Rattle.rows.specs.Beginning.{Begun}
 use Rattle.rows.proofs.Begun.{begun_laid}
 use Rattle.skips.proofs.Outcomes.{check_entry, check_judged}
-use borrow.Author.Rules.{rules}
 use Rattle.skips.proofs.check_words.Goals as goal
 use Rattle.skips.proofs.check_words.Goals.{In-Number}
 

@@ -5,7 +5,6 @@ use Rattle.rules.specs.declared.Counted.{Counted}
 use Rattle.sets.specs.Reading.{Read}
 use Rattle.sets.proofs.Opened.{opened, opened_room, refused}
 use Rattle.skips.proofs.Outcomes.{make_read, make_unread}
-use borrow.Author.Rules.{rules}
 use Rattle.skips.proofs.make.Goals as goal
 use Rattle.skips.proofs.make.Goals.{In-Number, In-Refused}
 

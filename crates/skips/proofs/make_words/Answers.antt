@@ -6,7 +6,6 @@ use Rattle.words.specs.Read.{way_of}
 use Rattle.rows.specs.Beginning.{Begun}
 use Rattle.rows.proofs.Begun.{begun_laid}
 use Rattle.skips.proofs.Outcomes.{make_entry, make_rows_short, make_bytes_short, make_done}
-use borrow.Author.Rules.{rules}
 use Rattle.skips.proofs.make_words.Goals as goal
 use Rattle.skips.proofs.make_words.Goals.{In-Number}
 

@@ -1,16 +1,13 @@
 -- Each keyword adds to the rows what no earlier one begins with, so the count is that of the keywords passed.
-use Prim.Native.Nat.{◌+◌, ◌-◌, ◌*◌, ◌≤◌, ◌<◌}
+use Prim.Native.Nat.{◌<◌}
 use mathlib.Core.Path.{◌≡◌, sym}
-use lib.ListN.{length, take}
+use lib.ListN.{take}
 use lib.Seq.{take_all}
 use native.Mathlib.Omega.{arith}
-use Rattle.rules.specs.sets.Limits.{longest_word}
-use Rattle.rules.specs.rows.Rows.{rows_of}
 use Rattle.words.specs.Items.{Has, keywords_in}
 use Rattle.words.specs.Read.{way_of}
 use Rattle.words.proofs.Items.{has_at, read_length}
 use Rattle.words.proofs.Counted.{rows_none, rows_more, most_within}
-use borrow.Author.Rules.{rules}
 use Rattle.words.proofs.count_rows.Goals as goal
 use Rattle.words.proofs.count_rows.Goals.{At-loop-i}
 

@@ -1,11 +1,10 @@
 -- The units passed are the same, so one that differs decides, and none does where all were passed; a longer string ends
 -- none.
-use Prim.Native.Nat.{◌-◌}
 use native.Mathlib.Omega.{arith}
 use mathlib.Core.Path.{sym}
 use lib.ListN.{length}
 use Rattle.rules.proofs.strings.Parts.{ends-longer}
-use Rattle.words.proofs.Compared.{Ending, ending_none, ending_stop, ending_more, ending_all, first_stop, first_more}
+use Rattle.words.proofs.Compared.{ending_none, ending_stop, ending_more, ending_all, first_stop, first_more}
 use Rattle.words.proofs.ends_with.Goals as goal
 
 pub returns-then-string-other : goal.returns-then-string-other

@@ -1,10 +1,7 @@
 -- What each turn keeps, and what falls.
 use Prim.Native.Nat.{◌-◌}
-use native.Mathlib.Omega.{arith}
-use mathlib.Core.Path.{sym}
 use lib.ListN.{length}
-use Rattle.rules.proofs.strings.Parts.{ends-longer}
-use Rattle.words.proofs.Compared.{Ending, ending_none, ending_stop, ending_more, ending_all, first_stop, first_more}
+use Rattle.words.proofs.Compared.{Ending}
 use Rattle.words.proofs.ends_with.Given as goal
 
 abbrev pub invariant-loop-k : goal.invariant-loop-k

@@ -2,7 +2,6 @@
 use mathlib.Core.Path.{sym, ◌∙◌}
 use native.Mathlib.Omega.{arith}
 use Rattle.words.proofs.Items.{word-length, has_short}
-use borrow.Author.Rules.{rules}
 use Rattle.words.proofs.length_of.Goals as goal
 
 pub returns : goal.returns

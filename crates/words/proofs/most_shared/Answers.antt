@@ -1,13 +1,10 @@
 -- The most is taken over the keywords passed, so at the end over all earlier ones.
-use Prim.Native.Nat.{◌-◌, ◌≤◌}
 use mathlib.Core.Path.{◌≡◌}
-use mathlib.Core.Logic.{⊎_elim}
 use native.Mathlib.Omega.{arith}
 use Rattle.words.specs.Items.{keywords_in}
-use Rattle.words.specs.Read.{way_of, read_at, earlier}
+use Rattle.words.specs.Read.{way_of, read_at}
 use Rattle.words.proofs.Items.{has_at}
 use Rattle.words.proofs.Counted.{most_none, most_more}
-use Rattle.rules.specs.Beside.{most_common}
 use Rattle.words.proofs.most_shared.Goals as goal
 use Rattle.words.proofs.most_shared.Goals.{else-most-n, then-most-n}
 

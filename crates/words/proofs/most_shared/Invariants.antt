@@ -1,12 +1,8 @@
 -- What each turn keeps, and what falls.
 use Prim.Native.Nat.{◌-◌, ◌≤◌}
 use mathlib.Core.Path.{◌≡◌}
-use mathlib.Core.Logic.{⊎_elim}
-use native.Mathlib.Omega.{arith}
 use Rattle.words.specs.Items.{keywords_in}
 use Rattle.words.specs.Read.{way_of, read_at, earlier}
-use Rattle.words.proofs.Items.{has_at}
-use Rattle.words.proofs.Counted.{most_none, most_more}
 use Rattle.rules.specs.Beside.{most_common}
 use Rattle.words.proofs.most_shared.Given as goal
 

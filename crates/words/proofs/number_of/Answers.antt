@@ -1,7 +1,6 @@
 -- The number is the first of a keyword's.
 use mathlib.Core.Path.{sym, ◌∙◌}
 use Rattle.words.proofs.Items.{number_at}
-use borrow.Author.Rules.{rules}
 use Rattle.words.proofs.number_of.Goals as goal
 
 pub returns : goal.returns

@@ -1,7 +1,6 @@
 -- The keyword with the number stands at the place looked at or before it, so it is met on the way down.
-use Prim.Native.Nat.{ℕ, ◌≤◌, ◌<◌}
+use Prim.Native.Nat.{ℕ, ◌<◌}
 use mathlib.Core.Path.{◌≡◌, sym, ◌∙◌, ap}
-use mathlib.Core.Logic.{⊎_elim}
 use lib.ListN.{length}
 use native.Mathlib.Omega.{arith}
 use native.Mathlib.Numerals.{lt_of_le_of_ne}
@@ -11,7 +10,6 @@ use Rattle.words.specs.Items.{keywords_in}
 use Rattle.rules.proofs.strings.Orders.{mem_at}
 use Rattle.words.proofs.Items.{has_at}
 use Rattle.words.proofs.Places.{place_below, place_names}
-use borrow.Author.Rules.{rules}
 use Rattle.words.proofs.place_of.Goals as goal
 use Rattle.words.proofs.place_of.Goals.{At-loop-i, In-loop-i, else-number-i, then-number-i}
 

@@ -4,7 +4,6 @@ use native.Mathlib.Omega.{arith}
 use lib.ListN.{length, length-set}
 use Rattle.words.specs.Items.{stored}
 use Rattle.words.proofs.Storing.{written, written_is}
-use borrow.Author.Rules.{rules}
 use Rattle.words.proofs.put.Goals as goal
 use Rattle.words.proofs.put.Goals.{After-put_units}
 

@@ -1,10 +1,9 @@
 -- Each turn copies one unit more, so at the end all fifteen stand there.
-use Prim.Native.Nat.{◌-◌}
 use native.Mathlib.Omega.{arith}
 use mathlib.Core.Path.{◌≡◌}
 use lib.ListN.{length}
 use Rattle.rules.specs.sets.Limits.{longest_word}
-use Rattle.rules.proofs.strings.Pasted.{Pasted, pasted_none, pasted_length, pasted_more}
+use Rattle.rules.proofs.strings.Pasted.{pasted_none, pasted_length, pasted_more}
 use borrow.Author.Rules.{rules}
 use Rattle.words.proofs.put_units.Goals as goal
 use Rattle.words.proofs.put_units.Goals.{Start}

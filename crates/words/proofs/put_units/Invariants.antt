@@ -1,10 +1,7 @@
 -- What each turn keeps, and what falls.
 use Prim.Native.Nat.{◌-◌}
-use native.Mathlib.Omega.{arith}
-use mathlib.Core.Path.{◌≡◌}
-use lib.ListN.{length}
 use Rattle.rules.specs.sets.Limits.{longest_word}
-use Rattle.rules.proofs.strings.Pasted.{Pasted, pasted_none, pasted_length, pasted_more}
+use Rattle.rules.proofs.strings.Pasted.{Pasted}
 use Rattle.words.proofs.put_units.Given as goal
 
 abbrev pub invariant-loop-k : goal.invariant-loop-k

@@ -1,10 +1,6 @@
 -- No keyword passed has the units of the one at place i, so one that has them decides, and none does where all were
 -- passed.
-use Prim.Native.Nat.{◌-◌, ◌≤◌}
 use mathlib.Core.Path.{◌≡◌, sym, ◌∙◌}
-use mathlib.Core.Bool.{false}
-use borrow.Author.Rules.{rules}
-use lib.ListN.{take}
 use native.Mathlib.Omega.{arith}
 use Rattle.rules.specs.strings.Strings.{same}
 use Rattle.rules.specs.sets.Sets.{is_keyword}

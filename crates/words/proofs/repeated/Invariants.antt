@@ -1,16 +1,11 @@
 -- What each turn keeps, and what falls.
 use Prim.Native.Nat.{◌-◌, ◌≤◌}
-use mathlib.Core.Path.{◌≡◌, sym, ◌∙◌}
+use mathlib.Core.Path.{◌≡◌}
 use mathlib.Core.Bool.{false}
-use borrow.Author.Rules.{rules}
 use lib.ListN.{take}
-use native.Mathlib.Omega.{arith}
-use Rattle.rules.specs.strings.Strings.{same}
 use Rattle.rules.specs.sets.Sets.{is_keyword}
-use Rattle.rules.specs.Beside.{no_keyword, nth}
-use Rattle.rules.proofs.strings.Searched.{none_passed, none_more, one_passes}
+use Rattle.rules.specs.Beside.{nth}
 use Rattle.words.specs.Items.{keywords_in}
-use Rattle.words.proofs.Items.{has_at}
 use Rattle.words.proofs.repeated.Given as goal
 
 abbrev pub invariant-loop-j : goal.invariant-loop-j

@@ -1,6 +1,5 @@
 -- Strings of one length are the same where one ends the other, and strings of two lengths never are.
 use mathlib.Core.Path.{sym, ◌∙◌}
-use borrow.Author.Rules.{rules}
 use Rattle.rules.proofs.strings.Strings.{same_unlike}
 use Rattle.rules.proofs.strings.Parts.{ends_same}
 use Rattle.words.proofs.same_string.Goals as goal

@@ -1,12 +1,12 @@
 -- The strings agree on the k units passed, so what they share is k and what they share behind them.
-use Prim.Native.Nat.{◌-◌, ◌<◌}
-use mathlib.Core.Path.{◌≡◌, sym, ◌∙◌}
+use Prim.Native.Nat.{◌<◌}
+use mathlib.Core.Path.{sym, ◌∙◌}
 use lib.ListN.{length}
 use native.Mathlib.Omega.{arith}
 use Rattle.words.specs.Items.{keywords_in}
 use Rattle.words.specs.Read.{way_of, read_at}
 use Rattle.words.proofs.Items.{read_length, word_some}
-use Rattle.words.proofs.Compared.{Agreed, agreed_none, agreed_left, agreed_right, agreed_stop, agreed_more}
+use Rattle.words.proofs.Compared.{agreed_none, agreed_left, agreed_right, agreed_stop, agreed_more}
 use Rattle.words.proofs.shared.Goals as goal
 use Rattle.words.proofs.shared.Goals.{After-unit-2}
 

@@ -1,12 +1,10 @@
 -- What each turn keeps, and what falls.
-use Prim.Native.Nat.{◌-◌, ◌<◌}
-use mathlib.Core.Path.{◌≡◌, sym, ◌∙◌}
+use Prim.Native.Nat.{◌-◌}
+use mathlib.Core.Path.{◌≡◌}
 use lib.ListN.{length}
-use native.Mathlib.Omega.{arith}
 use Rattle.words.specs.Items.{keywords_in}
 use Rattle.words.specs.Read.{way_of, read_at}
-use Rattle.words.proofs.Items.{read_length, word_some}
-use Rattle.words.proofs.Compared.{Agreed, agreed_none, agreed_left, agreed_right, agreed_stop, agreed_more}
+use Rattle.words.proofs.Compared.{Agreed}
 use Rattle.words.proofs.shared.Given as goal
 
 abbrev pub invariant-loop-k : goal.invariant-loop-k

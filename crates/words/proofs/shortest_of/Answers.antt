@@ -1,15 +1,11 @@
 -- The least length is taken over the keywords passed, the first among them, so at the end over all.
-use Prim.Native.Nat.{◌-◌, ◌≤◌}
 use mathlib.Core.Path.{◌≡◌, ◌∙◌}
-use mathlib.Core.Logic.{⊎_elim}
 use lib.ListN.{take}
 use lib.Seq.{take_all}
 use native.Mathlib.Omega.{arith}
-use Rattle.rules.specs.sets.Sets.{shortest}
 use Rattle.words.specs.Items.{keywords_in}
 use Rattle.words.proofs.Items.{has_at}
 use Rattle.words.proofs.Counted.{least_one, least_more}
-use borrow.Author.Rules.{rules}
 use Rattle.words.proofs.shortest_of.Goals as goal
 use Rattle.words.proofs.shortest_of.Goals.{else-n-least, then-n-least}
 

@@ -1,15 +1,9 @@
 -- What each turn keeps, and what falls.
 use Prim.Native.Nat.{◌-◌, ◌≤◌}
-use mathlib.Core.Path.{◌≡◌, ◌∙◌}
-use mathlib.Core.Logic.{⊎_elim}
+use mathlib.Core.Path.{◌≡◌}
 use lib.ListN.{take}
-use lib.Seq.{take_all}
-use native.Mathlib.Omega.{arith}
 use Rattle.rules.specs.sets.Sets.{shortest}
 use Rattle.words.specs.Items.{keywords_in}
-use Rattle.words.proofs.Items.{has_at}
-use Rattle.words.proofs.Counted.{least_one, least_more}
-use borrow.Author.Rules.{rules}
 use Rattle.words.proofs.shortest_of.Given as goal
 
 abbrev pub invariant-loop-i : goal.invariant-loop-i

@@ -3,7 +3,6 @@ use mathlib.Core.Path.{sym}
 use native.Mathlib.Omega.{arith}
 use Rattle.words.specs.Read.{way_of}
 use Rattle.words.proofs.Items.{word_short, read_forward, read_backward}
-use borrow.Author.Rules.{rules}
 use Rattle.words.proofs.unit.Goals as goal
 
 pub overflow_add-result-in-Forward : goal.overflow_add-result-in-Forward

@@ -4,7 +4,6 @@ use native.Mathlib.Omega.{arith}
 use mathlib.Core.Path.{◌≡◌, sym, ◌∙◌, ap}
 use mathlib.Core.List.{List}
 use lib.ListN.{take, drop, get_or}
-use borrow.Author.Rules.{rules}
 use Rattle.words.specs.Items.{item_size}
 use Rattle.words.proofs.Items.{word_is, word-length}
 use Rattle.words.proofs.units_of.Goals as goal

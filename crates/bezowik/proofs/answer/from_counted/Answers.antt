@@ -1,6 +1,5 @@
 -- Each arm has its variant's constructor, at which `told_counted` computes.
 use mathlib.Core.Path.{sym, ◌∙◌, ap}
-use borrow.Author.Rules.{rules}
 use Rattle.rules.specs.answers.Answers.{told_counted}
 use Rattle.bezowik.proofs.answer.from_counted.Goals as goal
 

@@ -1,6 +1,5 @@
 -- Each arm has its variant's constructor, at which `told` computes.
 use mathlib.Core.Path.{sym, ◌∙◌, ap}
-use borrow.Author.Rules.{rules}
 use Rattle.rules.specs.answers.Answers.{told}
 use Rattle.bezowik.proofs.answer.from_scanned.Goals as goal
 

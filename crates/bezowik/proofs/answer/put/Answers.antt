@@ -1,11 +1,9 @@
 -- Each turn puts the lowest byte of what is left of the number, so what is left to put stays the same list of bytes.
-use Prim.Native.Nat.{◌+◌, ◌-◌, ◌≤◌}
+use Prim.Native.Nat.{◌+◌, ◌-◌}
 use native.Mathlib.Omega.{arith}
-use mathlib.Core.Path.{◌≡◌, refl}
-use lib.ListN.{length, length-set}
-use lib.Seq.{sets}
-use Rattle.rules.specs.answers.Answers.{low_first}
-use Rattle.bezowik.proofs.Digits.{Putting, putting_none, putting_more, putting_all}
+use mathlib.Core.Path.{refl}
+use lib.ListN.{length-set}
+use Rattle.bezowik.proofs.Digits.{putting_none, putting_more, putting_all}
 use Rattle.bezowik.proofs.answer.put.Goals as goal
 
 pub loop-k-init : goal.loop-k-init

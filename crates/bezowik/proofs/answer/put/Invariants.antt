@@ -1,11 +1,10 @@
 -- What each turn keeps, and what falls.
 use Prim.Native.Nat.{◌+◌, ◌-◌, ◌≤◌}
-use native.Mathlib.Omega.{arith}
-use mathlib.Core.Path.{◌≡◌, refl}
-use lib.ListN.{length, length-set}
+use mathlib.Core.Path.{◌≡◌}
+use lib.ListN.{length}
 use lib.Seq.{sets}
 use Rattle.rules.specs.answers.Answers.{low_first}
-use Rattle.bezowik.proofs.Digits.{Putting, putting_none, putting_more, putting_all}
+use Rattle.bezowik.proofs.Digits.{Putting}
 use Rattle.bezowik.proofs.answer.put.Given as goal
 
 abbrev pub invariant-loop-k : goal.invariant-loop-k

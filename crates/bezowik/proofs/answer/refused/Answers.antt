@@ -1,6 +1,5 @@
 -- `number_of` and `place_of` give the refusal's number and place, and the other three are zero.
 use mathlib.Core.Path.{ap₂}
-use borrow.Author.Rules.{rules}
 use Rattle.rules.specs.answers.Answers.{told_refusal}
 use Rattle.bezowik.proofs.answer.refused.Goals as goal
 

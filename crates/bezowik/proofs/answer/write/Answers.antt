@@ -3,7 +3,6 @@ use Prim.Native.Nat.{ℕ}
 use mathlib.Core.Path.{◌∙◌, ap}
 use mathlib.Core.List.{List}
 use lib.Seq.{sets}
-use borrow.Author.Rules.{rules}
 use Rattle.rules.specs.answers.Answers.{low_first}
 use Rattle.bezowik.specs.Calls.{told_of}
 use Rattle.bezowik.proofs.Digits.{put_all}

@@ -1,14 +1,12 @@
 -- Row 0 is six zeros, and each keyword's rows are built behind those of the keywords before it.
-use Prim.Native.Nat.{◌-◌, ◌≤◌}
+use Prim.Native.Nat.{◌≤◌}
 use native.Mathlib.Omega.{arith}
 use mathlib.Core.Path.{◌∙◌}
-use lib.ListN.{length, take, length-set}
-use borrow.Author.Rules.{rules}
+use lib.ListN.{length, length-set}
 use Rattle.rules.specs.sets.Limits.{row_cells}
 use Rattle.rules.proofs.rows.Rows.{rowed_rows}
 use Rattle.words.specs.Items.{keywords_in}
 use Rattle.words.specs.Read.{way_of}
-use Rattle.rows.specs.Builds.{Built}
 use Rattle.rows.proofs.Building.{built-root, built_here, built_inserting, built_more, built_all}
 use Rattle.rows.proofs.build.build.Goals as goal
 use Rattle.rows.proofs.build.build.Goals.{Start}

@@ -1,8 +1,7 @@
 -- The rows are met unit by unit, and the row that the word leads to gets the keyword's number plus one.
-use Prim.Native.Nat.{ℕ, ◌+◌, ◌-◌, ◌*◌, ◌≤◌, ◌<◌}
+use Prim.Native.Nat.{ℕ, ◌+◌, ◌*◌, ◌≤◌, ◌<◌}
 use native.Mathlib.Omega.{arith}
 use mathlib.Core.Path.{◌≡◌, sym, ◌∙◌, ap, subst}
-use mathlib.Core.Logic.{⊎_elim}
 use mathlib.Core.List.{List, []}
 use lib.ListN.{length, get_or, take, length-set}
 use Rattle.rules.specs.sets.Limits.{most_keywords, most_rows, row_cells}
@@ -15,7 +14,7 @@ use Rattle.words.specs.Read.{way_of, read_at}
 use Rattle.words.proofs.Items.{has_at, read_length}
 use Rattle.rows.specs.Tree.{Answered, appended}
 use Rattle.rows.proofs.Appended.{Growing, growing_last}
-use Rattle.rows.proofs.Spelling.{met, Spelled, spelled_none, spelled_within, spelled_few, spelled_room, spelled_old, spelled_growing, spelled-new, spelled_all}
+use Rattle.rows.proofs.Spelling.{met, spelled_none, spelled_within, spelled_few, spelled_room, spelled_old, spelled_growing, spelled-new, spelled_all}
 use Rattle.rows.proofs.build.insert.Goals as goal
 use Rattle.rows.proofs.build.insert.Goals.{After-ask-found, At-loop-k, In-loop-k, Start, Then-next-eq0, else-next-eq0, then-next-eq0}
 

@@ -1,7 +1,6 @@
 -- The tests are made in the order of the table, and each return has the verdict of the first that shows a fault.
 use native.Mathlib.Omega.{arith}
 use mathlib.Core.Path.{sym}
-use borrow.Author.Rules.{rules}
 use Rattle.rules.proofs.answers.Entering.{entry-trace, entry_uncounted, entry_room, entry_pass}
 use Rattle.rows.specs.Beginning.{verdict_of}
 use Rattle.rows.proofs.entry.enter.Goals as goal

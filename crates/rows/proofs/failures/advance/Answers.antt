@@ -1,11 +1,7 @@
 -- Wherever the chain of failures stands, it leads on to the same row, and each question has taken a byte, of which
 -- there are few.
-use Prim.Native.Nat.{ℕ, ◌+◌, ◌-◌}
 use native.Mathlib.Omega.{arith}
-use mathlib.Core.List.{List}
-use Rattle.rules.specs.sets.Limits.{longest_word}
-use Rattle.rows.specs.Falls.{Ready}
-use Rattle.rows.proofs.Chain.{Falling, falling_none, falling_more, falling_child, falling-root}
+use Rattle.rows.proofs.Chain.{falling_none, falling_more, falling_child, falling-root}
 use Rattle.rows.proofs.failures.advance.Goals as goal
 
 pub loop-row-init : goal.loop-row-init

@@ -1,10 +1,9 @@
 -- What each turn keeps, and what falls.
 use Prim.Native.Nat.{ℕ, ◌+◌, ◌-◌}
-use native.Mathlib.Omega.{arith}
 use mathlib.Core.List.{List}
 use Rattle.rules.specs.sets.Limits.{longest_word}
 use Rattle.rows.specs.Falls.{Ready}
-use Rattle.rows.proofs.Chain.{Falling, falling_none, falling_more, falling_child, falling-root}
+use Rattle.rows.proofs.Chain.{Falling}
 use Rattle.rows.proofs.failures.advance.Given as goal
 
 abbrev pub invariant-loop-row : goal.invariant-loop-row

@@ -2,7 +2,6 @@
 use Prim.Native.Nat.{ℕ, ◌+◌, ◌*◌, ◌≤◌}
 use native.Mathlib.Omega.{arith}
 use mathlib.Core.Path.{◌≡◌, sym, ◌∙◌}
-use mathlib.Core.Logic.{⊎_elim}
 use mathlib.Core.List.{List}
 use lib.ListN.{length, length-set}
 use Rattle.rules.specs.sets.Limits.{row_cells}
@@ -11,7 +10,6 @@ use Rattle.rules.specs.rows.Rows.{forward, rows_of}
 use Rattle.rules.proofs.rows.Most.{rows_few}
 use Rattle.rows.specs.Falls.{Fillable}
 use Rattle.rows.proofs.Behind.{child_row, fail_row, dict_row, up_ready, fails-root, fails_up, fail_within, dict_keyed, dict_unkeyed, dict_within, child_within, filled}
-use borrow.Author.Rules.{rules}
 use Rattle.rows.proofs.failures.fill_row.Goals as goal
 use Rattle.rows.proofs.failures.fill_row.Goals.{Start, After-ask-found, Joined-key-eq0, Joined-parent-ne0, else-key-eq0, else-parent-ne0, then-key-eq0, then-parent-ne0}
 

@@ -1,11 +1,8 @@
 -- Each turn fills one level more; no row is longer than the last.
-use Prim.Native.Nat.{◌≤◌, ◌-◌}
 use native.Mathlib.Omega.{arith}
 use mathlib.Core.Path.{◌≡◌}
 use lib.ListN.{get_or-replicate}
 use Rattle.rules.specs.sets.Limits.{longest_word, most_keywords}
-use Rattle.words.specs.Items.{keywords_in}
-use Rattle.rows.specs.Levels.{Levelled}
 use Rattle.rows.proofs.Depth.{levelled_none, levelled_more}
 use Rattle.rows.proofs.levels.fill.Goals as goal
 

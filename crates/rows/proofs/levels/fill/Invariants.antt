@@ -1,12 +1,8 @@
 -- What each turn keeps, and what falls.
 use Prim.Native.Nat.{◌≤◌, ◌-◌}
-use native.Mathlib.Omega.{arith}
-use mathlib.Core.Path.{◌≡◌}
-use lib.ListN.{get_or-replicate}
-use Rattle.rules.specs.sets.Limits.{longest_word, most_keywords}
+use Rattle.rules.specs.sets.Limits.{longest_word}
 use Rattle.words.specs.Items.{keywords_in}
 use Rattle.rows.specs.Levels.{Levelled}
-use Rattle.rows.proofs.Depth.{levelled_none, levelled_more}
 use Rattle.rows.proofs.levels.fill.Given as goal
 
 abbrev pub invariant-loop-depth : goal.invariant-loop-depth

@@ -1,10 +1,9 @@
 -- The keywords taken stand a byte further at rows that are filled; once all are, so is the level.
-use Prim.Native.Nat.{ℕ, ◌+◌, ◌-◌, ◌<◌}
+use Prim.Native.Nat.{ℕ, ◌<◌}
 use native.Mathlib.Omega.{arith}
-use mathlib.Core.Path.{◌≡◌, sym, ◌∙◌}
-use mathlib.Core.Logic.{⊎_elim}
+use mathlib.Core.Path.{◌≡◌, sym}
 use mathlib.Core.List.{List}
-use lib.ListN.{length, get_or, set, length-map}
+use lib.ListN.{length, get_or}
 use borrow.Author.Rules.{rules}
 use Rattle.rules.specs.sets.Limits.{most_keywords}
 use Rattle.rules.specs.sets.Sets.{Keyword}
@@ -16,7 +15,7 @@ use Rattle.words.specs.Read.{way_of, read_at}
 use Rattle.words.proofs.Items.{has_at}
 use Rattle.rows.specs.Falls.{Fillable, Filled}
 use Rattle.rows.proofs.Behind.{child_within}
-use Rattle.rows.proofs.Depth.{Halfway, halfway_none, halfway_skip, halfway_fillable, halfway_more, halfway_all}
+use Rattle.rows.proofs.Depth.{halfway_none, halfway_skip, halfway_fillable, halfway_more, halfway_all}
 use Rattle.rows.proofs.levels.fill_level.Goals as goal
 use Rattle.rows.proofs.levels.fill_level.Goals.{After-fill_row-row, After-length_of-n, After-unit-c, In-loop-i, Start, else-depth-n, then-depth-n}
 

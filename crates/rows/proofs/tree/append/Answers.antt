@@ -4,14 +4,12 @@ use Prim.Native.Nat.{◌+◌, ◌*◌}
 use native.Mathlib.Omega.{arith}
 use native.Mathlib.Numerals.{towards_suc}
 use mathlib.Core.Path.{◌≡◌, ◌∙◌, ap}
-use mathlib.Core.Logic.{⊎_elim}
 use mathlib.Core.Bool.{cond}
 use lib.ListN.{length, set, length-set}
 use lib.Dec.{eqb}
 use borrow.Author.Tests.{eq-eqb, ne_eqb}
 use Rattle.rules.specs.sets.Limits.{row_cells}
 use Rattle.rows.specs.Tree.{appended}
-use borrow.Author.Rules.{rules}
 use Rattle.rows.proofs.tree.append.Goals as goal
 use Rattle.rows.proofs.tree.append.Goals.{Joined-last-eq0, else-last-eq0, then-last-eq0}
 

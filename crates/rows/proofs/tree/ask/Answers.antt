@@ -1,13 +1,13 @@
 -- The child number and the sibling numbers lead over the children of the row in order, so the walk passes each child
 -- up to the one with the byte, or all; it ends, since each number is above the one before.
-use Prim.Native.Nat.{ℕ, ◌-◌, ◌≤◌, ◌<◌}
+use Prim.Native.Nat.{ℕ, ◌≤◌}
 use native.Mathlib.Omega.{arith}
 use mathlib.Core.Path.{sym, ◌∙◌}
 use mathlib.Core.List.{List, []}
-use lib.ListN.{length, get_or}
-use Rattle.rows.specs.Tree.{Tree, children_of}
+use lib.ListN.{get_or}
+use Rattle.rows.specs.Tree.{children_of}
 use Rattle.rows.proofs.Columns.{tree_room}
-use Rattle.rows.proofs.Walk.{Walk, walk_start, walk_none, Turn, walk_turn, walk-found, walk_on}
+use Rattle.rows.proofs.Walk.{walk_start, walk_none, Turn, walk_turn, walk-found, walk_on}
 use Rattle.rows.proofs.tree.ask.Goals as goal
 use Rattle.rows.proofs.tree.ask.Goals.{In-loop-at}
 

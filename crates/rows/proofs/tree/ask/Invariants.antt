@@ -1,12 +1,9 @@
 -- What each turn keeps, and what falls.
-use Prim.Native.Nat.{ℕ, ◌-◌, ◌≤◌, ◌<◌}
-use native.Mathlib.Omega.{arith}
-use mathlib.Core.Path.{sym, ◌∙◌}
+use Prim.Native.Nat.{ℕ, ◌-◌, ◌<◌}
 use mathlib.Core.List.{List, []}
 use lib.ListN.{length, get_or}
-use Rattle.rows.specs.Tree.{Tree, children_of}
-use Rattle.rows.proofs.Columns.{tree_room}
-use Rattle.rows.proofs.Walk.{Walk, walk_start, walk_none, Turn, walk_turn, walk-found, walk_on}
+use Rattle.rows.specs.Tree.{Tree}
+use Rattle.rows.proofs.Walk.{Walk}
 use Rattle.rows.proofs.tree.ask.Given as goal
 
 abbrev pub invariant-loop-at : goal.invariant-loop-at

@@ -1,11 +1,9 @@
 -- The table has the nearest distances of the places passed, so behind the last one the far numbers.
-use Prim.Native.Nat.{◌-◌, ◌*◌, ◌/◌, ◌%◌, ◌≤◌, ◌<◌}
+use Prim.Native.Nat.{◌-◌, ◌*◌, ◌/◌, ◌%◌, ◌<◌}
 use native.Mathlib.Omega.{arith}
 use mathlib.Core.Path.{◌≡◌, refl}
-use mathlib.Core.Logic.{⊎_elim}
 use mathlib.Core.List.{List}
 use lib.ListN.{length, get_or}
-use borrow.Author.Rules.{rules}
 use Rattle.rules.specs.sets.Limits.{longest_word, opcodes}
 use Rattle.rules.specs.sets.Sets.{Keyword}
 use Rattle.rules.specs.Beside.{nth}
@@ -13,7 +11,7 @@ use Rattle.rules.proofs.skips.Least.{shortest_pos, shortest_short}
 use Rattle.words.specs.Items.{Has, keywords_in}
 use Rattle.skips.specs.Suffixes.{Listed}
 use Rattle.skips.proofs.Keywords.{listed_has, listed_byte, unit_read}
-use Rattle.skips.proofs.FarTable.{Held, Table, table_none, table_other, table-met, table_all}
+use Rattle.skips.proofs.FarTable.{Held, table_none, table_other, table-met, table_all}
 use Rattle.skips.proofs.fars.far_numbers.Goals as goal
 use Rattle.skips.proofs.fars.far_numbers.Goals.{After-unit-a, In-loop-q, else-k-n, then-k-n}
 

@@ -1,11 +1,9 @@
 -- The first p numbers of the byte file are written, each read from the table of far numbers, so at the end all.
-use Prim.Native.Nat.{◌-◌, ◌≤◌}
 use native.Mathlib.Omega.{arith}
-use mathlib.Core.Path.{◌≡◌, refl, ◌∙◌}
-use lib.ListN.{length, length-set}
-use Rattle.rules.specs.sets.Limits.{byte_file_size}
+use mathlib.Core.Path.{refl, ◌∙◌}
+use lib.ListN.{length-set}
 use Rattle.words.specs.Items.{keywords_in}
-use Rattle.skips.proofs.Written.{written, written_none, written_more, written_all}
+use Rattle.skips.proofs.Written.{written_none, written_more, written_all}
 use Rattle.skips.proofs.fars.put_bytes.Goals as goal
 
 pub far_numbers-far-requires : goal.far_numbers-far-requires

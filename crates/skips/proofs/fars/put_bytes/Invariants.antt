@@ -1,11 +1,10 @@
 -- What each turn keeps, and what falls.
 use Prim.Native.Nat.{◌-◌, ◌≤◌}
-use native.Mathlib.Omega.{arith}
-use mathlib.Core.Path.{◌≡◌, refl, ◌∙◌}
-use lib.ListN.{length, length-set}
+use mathlib.Core.Path.{◌≡◌}
+use lib.ListN.{length}
 use Rattle.rules.specs.sets.Limits.{byte_file_size}
 use Rattle.words.specs.Items.{keywords_in}
-use Rattle.skips.proofs.Written.{written, written_none, written_more, written_all}
+use Rattle.skips.proofs.Written.{written}
 use Rattle.skips.proofs.fars.put_bytes.Given as goal
 
 abbrev pub invariant-loop-p : goal.invariant-loop-p

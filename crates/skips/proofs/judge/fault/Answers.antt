@@ -1,9 +1,7 @@
 -- The bytes passed name the row, so the first that does not is the fault, and else the first number that is not
 -- allowed.
 use borrow.Author.Rules.{rules}
-use Prim.Native.Nat.{◌-◌}
-use native.Mathlib.Omega.{arith}
-use Rattle.skips.proofs.Compared.{Alike, alike_none, alike_more, alike_stop, fault-inner, fault-edge, fault_none, faulty_zero, faulty_above, faulty_none}
+use Rattle.skips.proofs.Compared.{alike_none, alike_more, alike_stop, fault-inner, fault-edge, fault_none, faulty_zero, faulty_above, faulty_none}
 use Rattle.rules.specs.sets.Limits.{row_record}
 use mathlib.Core.Path.{◌≡◌}
 use lib.ListN.{length}

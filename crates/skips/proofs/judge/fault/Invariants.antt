@@ -1,7 +1,6 @@
 -- What each turn keeps, and what falls.
 use Prim.Native.Nat.{◌-◌}
-use native.Mathlib.Omega.{arith}
-use Rattle.skips.proofs.Compared.{Alike, alike_none, alike_more, alike_stop, fault-inner, fault-edge, fault_none, faulty_zero, faulty_above, faulty_none}
+use Rattle.skips.proofs.Compared.{Alike}
 use Rattle.skips.proofs.judge.fault.Given as goal
 
 abbrev pub invariant-loop-k : goal.invariant-loop-k

@@ -1,10 +1,9 @@
 -- The numbers before place p passed, so the first that is 0 or above the table's decides.
-use Prim.Native.Nat.{◌-◌, ◌/◌, ◌%◌}
+use Prim.Native.Nat.{◌/◌, ◌%◌}
 use native.Mathlib.Omega.{arith}
 use mathlib.Core.Path.{◌≡◌}
 use mathlib.Core.List.{[]}
 use lib.ListN.{get_or}
-use Rattle.rules.specs.sets.Limits.{byte_file_size}
 use Rattle.rules.specs.rows.Rows.{backward}
 use Rattle.rules.specs.skips.Skips.{far}
 use Rattle.rules.proofs.rows.Most.{rows_few}
@@ -12,7 +11,7 @@ use Rattle.rules.proofs.answers.Counts.{answer_refused, answer_passed}
 use Rattle.words.specs.Items.{keywords_in}
 use Rattle.skips.proofs.Written.{table_place}
 use Rattle.skips.proofs.Compared.{faulty_zero, faulty_above, faulty_none}
-use Rattle.skips.proofs.Bytewise.{FarsPassed, fars_none, fars_stop, fars_more, fars_all}
+use Rattle.skips.proofs.Bytewise.{fars_none, fars_stop, fars_more, fars_all}
 use Rattle.skips.proofs.judge.judge_bytes.Goals as goal
 use Rattle.skips.proofs.judge.judge_bytes.Goals.{In-loop-p}
 

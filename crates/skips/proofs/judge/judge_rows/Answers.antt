@@ -1,5 +1,5 @@
 -- The rows before one passed, and the walk is at its suffix, so its record's fault decides.
-use Prim.Native.Nat.{◌-◌, ◌<◌}
+use Prim.Native.Nat.{◌<◌}
 use native.Mathlib.Omega.{arith}
 use Rattle.rules.specs.sets.Limits.{most_rows}
 use Rattle.rules.specs.rows.Rows.{backward}
@@ -7,8 +7,8 @@ use Rattle.rules.proofs.rows.Most.{rows_few}
 use Rattle.rules.proofs.answers.Counts.{answer_refused, answer_passed}
 use Rattle.rules.proofs.skips.Tables.{suffix_rows-length, suffix_short}
 use Rattle.words.specs.Items.{keywords_in}
-use Rattle.skips.specs.Suffixes.{At, suffix_at}
-use Rattle.skips.proofs.Rowwise.{RowsPassed, RowTold, rows_none, rows_name, rows_number, rows_more, rows_all}
+use Rattle.skips.specs.Suffixes.{suffix_at}
+use Rattle.skips.proofs.Rowwise.{RowTold, rows_none, rows_name, rows_number, rows_more, rows_all}
 use Rattle.skips.proofs.judge.judge_rows.Goals as goal
 use Rattle.skips.proofs.judge.judge_rows.Goals.{After-fault-number, At-loop-at}
 

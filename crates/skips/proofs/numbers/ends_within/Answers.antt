@@ -3,7 +3,6 @@
 use native.Mathlib.Omega.{arith}
 use mathlib.Core.Path.{sym, ◌∙◌}
 use lib.Seq.{length-take-le}
-use borrow.Author.Rules.{rules}
 use Rattle.rules.proofs.skips.Distances.{ends_whole, ends-front}
 use Rattle.skips.proofs.numbers.ends_within.Goals as goal
 

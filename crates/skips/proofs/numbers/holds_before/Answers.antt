@@ -2,7 +2,6 @@
 use native.Mathlib.Omega.{arith}
 use mathlib.Core.Path.{sym, ◌∙◌}
 use lib.Seq.{length-take-le}
-use borrow.Author.Rules.{rules}
 use Rattle.rules.proofs.skips.Distances.{holds_short, holds-front}
 use Rattle.skips.proofs.numbers.holds_before.Goals as goal
 

@@ -1,5 +1,5 @@
 -- The numbers are tried from 1 up: no keyword stops the search at a smaller one, until one does or m is reached.
-use Prim.Native.Nat.{ℕ, ◌-◌, ◌≤◌}
+use Prim.Native.Nat.{ℕ, ◌≤◌}
 use native.Mathlib.Omega.{arith}
 use mathlib.Core.Path.{◌≡◌, refl, sym, ◌∙◌}
 use mathlib.Core.List.{List}
@@ -7,7 +7,7 @@ use Rattle.rules.specs.sets.Limits.{longest_word}
 use Rattle.rules.specs.sets.Sets.{Keyword, shortest}
 use Rattle.rules.specs.skips.Skips.{least, inner, edge}
 use Rattle.rules.proofs.skips.Least.{shortest_pos, shortest_short}
-use Rattle.rules.proofs.skips.Searches.{Searched, searched_none, searched_stop, searched_more, searched_all}
+use Rattle.rules.proofs.skips.Searches.{searched_none, searched_stop, searched_more, searched_all}
 use Rattle.words.specs.Items.{keywords_in}
 use Rattle.skips.specs.declared.numbers.Number.{Number}
 use Rattle.skips.specs.declared.numbers.Number.TheVariants.{Inner, Edge}

@@ -1,12 +1,8 @@
 -- No keyword before k stops the search, so one that does decides, and none does where all were passed.
-use Prim.Native.Nat.{◌-◌, ◌≤◌, ◌<◌}
+use Prim.Native.Nat.{◌<◌}
 use native.Mathlib.Omega.{arith}
 use mathlib.Core.Path.{◌≡◌, sym, ◌∙◌}
-use mathlib.Core.Bool.{false}
-use lib.ListN.{length, take}
-use borrow.Author.Rules.{rules}
-use Rattle.rules.specs.strings.Strings.{any}
-use Rattle.rules.specs.sets.Sets.{Keyword}
+use lib.ListN.{length}
 use Rattle.rules.specs.Beside.{no_keyword, nth}
 use Rattle.rules.proofs.strings.Searched.{any_at, none_passed, none_more, none_at_all}
 use Rattle.words.specs.Items.{keywords_in}

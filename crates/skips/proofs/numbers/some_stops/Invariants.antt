@@ -1,17 +1,12 @@
 -- What each turn keeps, and what falls.
-use Prim.Native.Nat.{◌-◌, ◌≤◌, ◌<◌}
-use native.Mathlib.Omega.{arith}
-use mathlib.Core.Path.{◌≡◌, sym, ◌∙◌}
+use Prim.Native.Nat.{◌-◌, ◌≤◌}
+use mathlib.Core.Path.{◌≡◌}
 use mathlib.Core.Bool.{false}
-use lib.ListN.{length, take}
-use borrow.Author.Rules.{rules}
+use lib.ListN.{take}
 use Rattle.rules.specs.strings.Strings.{any}
 use Rattle.rules.specs.sets.Sets.{Keyword}
-use Rattle.rules.specs.Beside.{no_keyword, nth}
-use Rattle.rules.proofs.strings.Searched.{any_at, none_passed, none_more, none_at_all}
 use Rattle.words.specs.Items.{keywords_in}
-use Rattle.words.proofs.Items.{has_at}
-use Rattle.skips.specs.Suffixes.{stops_at, some_stops}
+use Rattle.skips.specs.Suffixes.{stops_at}
 use Rattle.skips.proofs.numbers.some_stops.Given as goal
 
 abbrev pub invariant-loop-k : goal.invariant-loop-k

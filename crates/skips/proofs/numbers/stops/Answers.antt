@@ -1,5 +1,4 @@
 -- Each number has its own test.
-use borrow.Author.Rules.{rules}
 use Rattle.skips.specs.Suffixes.{stops_at}
 use Rattle.skips.proofs.numbers.stops.Goals as goal
 

@@ -1,8 +1,7 @@
 -- All rows up to depth z of keyword i are passed and some are left, so where the keyword ends there is a later one.
-use Prim.Native.Nat.{◌+◌, ◌-◌}
+use Prim.Native.Nat.{◌+◌}
 use native.Mathlib.Omega.{arith}
 use mathlib.Core.Path.{◌∙◌}
-use lib.ListN.{length}
 use Rattle.words.specs.Items.{keywords_in}
 use Rattle.words.specs.Read.{way_of}
 use Rattle.skips.specs.Suffixes.{Walked, shared_at}

@@ -1,11 +1,10 @@
 -- The first k numbers of the record stand in the buffer, so at the end the record.
 use borrow.Author.Rules.{rules}
-use Prim.Native.Nat.{◌-◌}
 use native.Mathlib.Omega.{arith}
 use mathlib.Core.Path.{◌≡◌}
 use lib.ListN.{length}
 use Rattle.rules.specs.sets.Limits.{row_record}
-use Rattle.rules.proofs.strings.Pasted.{Pasted, pasted_none, pasted_length, pasted_more}
+use Rattle.rules.proofs.strings.Pasted.{pasted_none, pasted_length, pasted_more}
 use Rattle.skips.proofs.Buffers.{pasted_all}
 use Rattle.skips.proofs.suffixes.put_record.Goals as goal
 use Rattle.skips.proofs.suffixes.put_record.Goals.{Start}

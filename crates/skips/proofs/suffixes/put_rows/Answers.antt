@@ -1,10 +1,8 @@
 -- The records of the rows passed lie over the front of the buffer, so at the end the row file.
-use Prim.Native.Nat.{◌+◌, ◌-◌, ◌<◌}
+use Prim.Native.Nat.{◌+◌, ◌<◌}
 use native.Mathlib.Omega.{arith}
 use mathlib.Core.Path.{◌∙◌}
-use borrow.Author.Rules.{rules}
 use Rattle.words.specs.Items.{keywords_in}
-use Rattle.skips.specs.Suffixes.{At}
 use Rattle.skips.proofs.Buffers.{Laid, laid_none, laid_more, laid-length, laid_all}
 use Rattle.skips.proofs.suffixes.put_rows.Goals as goal
 use Rattle.skips.proofs.suffixes.put_rows.Goals.{After-slice_known-in-loop-row-1, At-loop-row}

@@ -1,11 +1,8 @@
 -- What each turn keeps, and what falls.
-use Prim.Native.Nat.{◌+◌, ◌-◌, ◌<◌}
-use native.Mathlib.Omega.{arith}
-use mathlib.Core.Path.{◌∙◌}
-use borrow.Author.Rules.{rules}
+use Prim.Native.Nat.{◌-◌}
 use Rattle.words.specs.Items.{keywords_in}
 use Rattle.skips.specs.Suffixes.{At}
-use Rattle.skips.proofs.Buffers.{Laid, laid_none, laid_more, laid-length, laid_all}
+use Rattle.skips.proofs.Buffers.{Laid}
 use Rattle.skips.proofs.suffixes.put_rows.Given as goal
 
 abbrev pub invariant-loop-row : goal.invariant-loop-row

@@ -1,5 +1,5 @@
 -- The record holds the suffix's length and its first k bytes, so at the end the suffix, and then its two numbers.
-use Prim.Native.Nat.{◌-◌, ◌<◌, ◌≤◌}
+use Prim.Native.Nat.{◌<◌, ◌≤◌}
 use native.Mathlib.Omega.{arith}
 use mathlib.Core.Path.{◌≡◌, refl, ap}
 use lib.ListN.{length, get_or}
@@ -10,7 +10,7 @@ use Rattle.rules.specs.Beside.{Sound}
 use Rattle.words.specs.Items.{Words, keywords_in}
 use Rattle.skips.specs.Suffixes.{largest_of}
 use Rattle.skips.proofs.Keywords.{suffix-length, suffix_short, suffix_byte}
-use Rattle.skips.proofs.Spelling.{Spelled, spelled_none, spelled_more, spelled_all}
+use Rattle.skips.proofs.Spelling.{spelled_none, spelled_more, spelled_all}
 use Rattle.skips.proofs.suffixes.record_of.Goals as goal
 use Rattle.skips.proofs.suffixes.record_of.Goals.{After-suffix_of-suffix, In-loop-k}
 

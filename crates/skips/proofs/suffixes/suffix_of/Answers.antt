@@ -4,7 +4,6 @@ use native.Mathlib.Omega.{arith}
 use mathlib.Core.Path.{ap}
 use lib.ListN.{length, drop, length-drop}
 use lib.Seq.{take_all}
-use borrow.Author.Rules.{rules}
 use Rattle.rules.specs.Beside.{nth}
 use Rattle.words.specs.Items.{keywords_in}
 use Rattle.skips.specs.Suffixes.{suffix_at}
