@@ -1,4 +1,4 @@
-// Links the static library that `rt staticlib bezowik` writes. BEZOWIK_LIB names its folder; without it that is ../target/staticlib.
+// Links the static library that `./build` writes. BEZOWIK_LIB names its folder; without it that is ../target/staticlib.
 use std::path::PathBuf;
 
 /// Tells cargo where the library is, or the reader that it is not there.
@@ -9,7 +9,7 @@ fn main() {
     println!("cargo:rerun-if-env-changed=BEZOWIK_LIB");
     println!("cargo:rerun-if-changed={}", library.display());
     if !library.is_file() {
-        eprintln!("no libbezowik.a in {}: run `rt staticlib bezowik` first", folder.display());
+        eprintln!("no libbezowik.a in {}: run `./build` first", folder.display());
         std::process::exit(1);
     }
     println!("cargo:rustc-link-search=native={}", folder.display());

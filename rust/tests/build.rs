@@ -13,6 +13,6 @@ fn build_without_the_library() {
     let output = cargo.output().expect("cargo runs");
     let _ = std::fs::remove_dir_all(&folder);
     let told = String::from_utf8_lossy(&output.stderr);
-    let expected = format!("no libbezowik.a in {}: run `rt staticlib bezowik` first\n", folder.display());
+    let expected = format!("no libbezowik.a in {}: run `./build` first\n", folder.display());
     assert!(!output.status.success() && told.contains(&expected), "{told}");
 }
