@@ -44,7 +44,7 @@ unfolding or_else
 or_else_behind pass e = e refl
 or_else_behind (refuse n p) e = refl
 
--- refuseIf: a refusal exactly where the test shows a fault
+-- refuse_if: a refusal exactly where the test shows a fault
 pub refuse_if_true : {b : Bool} (n p : ℕ) → b ≡ true → refuse_if b n p ≡ refuse n p
 unfolding refuse_if
 refuse_if_true n p e = rw e

@@ -20,7 +20,8 @@ Known s ks d = Fillable ks d s.args.parent s.args.c s.args.ws.now
 pub advance-moved-requires : goal.advance-moved-requires
 advance-moved-requires c =
     let known = c.requires in
-    (rows_of forward known.0, known.1, rw c.failure-up.ensures.0 (up_ready known.2))
+    let ready = rw (← c.failure-up.ensures.0) at (up_ready known.2) in
+    (rows_of forward known.0, known.1, ready)
 
 -- the child, its failure and its dictionary row, as they are found
 row_is : (c : After-ask-found) {ks : List Keyword} {d : ℕ}
