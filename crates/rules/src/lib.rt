@@ -1,6 +1,8 @@
 // What document 01 counts with, and how its answers are put in Rattle.
 #![tactic(auto)]
 
+mod refusals; // refusals.rt: a refusal's number and place, and how it is printed
+
 // The most keywords of a set, bytes of a keyword and bytes of a trace.
 pub const KEYWORDS: usize = 64;
 
@@ -27,14 +29,14 @@ pub const BYTES: usize = 4096;
 pub const ANSWER: usize = 20;
 
 // The way a keyword is read: from its first byte onwards, or from its last byte backwards.
-#[derive(Clone, Copy)]
+#[derive(Clone, Copy, Debug, PartialEq, Eq)]
 pub enum Way {
     Forward,
     Backward,
 }
 
 // Why a call is refused. `number_and_place` in specs/answers/Answers.antt gives document 01's number and place of each.
-#[derive(Clone, Copy)]
+#[derive(Clone, Copy, Debug, PartialEq, Eq)]
 pub enum Refusal {
     SetEmpty,
     SetSize,
