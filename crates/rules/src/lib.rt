@@ -63,18 +63,3 @@ pub struct Totals {
     pub questions: u32,
     pub energy: u64,
 }
-
-// The answer of a scan.
-#[derive(Drop)]
-pub enum Scanned {
-    Found(Totals),
-    Refused(Refusal),
-}
-
-// An answer that is one number. The tests of a set answer how many keywords it has; the tests behind them, making and
-// the check answer how many rows.
-#[derive(Drop)]
-pub enum Counted {
-    Number(u16),
-    Refused(Refusal),
-}

@@ -5,4 +5,3 @@ pub mod Judged
 pub mod Gathered
 pub mod Keeping
 pub mod Files
-pub mod Opened

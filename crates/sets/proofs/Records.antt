@@ -10,7 +10,7 @@ use lib.Seq.{get_or-take, get_or-drop}
 use Rattle.rules.specs.sets.Limits.{record_size}
 use Rattle.rules.specs.sets.Sets.{keyword_of}
 use Rattle.rules.specs.Beside.{record_at, keyword_at}
-use Rattle.sets.specs.Reading.{Stated, half_at}
+use Rattle.sets.specs.Reading.{Stated}
 
 module _ (s : List ℕ) (i : ℕ) (whole : record_size * i + record_size ≤ length s) where
   pub record-length : length (record_at s i) ≡ record_size
@@ -21,15 +21,17 @@ module _ (s : List ℕ) (i : ℕ) (whole : record_size * i + record_size ≤ len
   unfolding record_at
   record-at k h = get_or-take record_size (drop (record_size * i) s) k 0 h ∙ get_or-drop (record_size * i) s k 0
 
-  half-at : (k : ℕ) → k + 1 < record_size
-      → half_at s (record_size * i + k) ≡ get_or (record_at s i) k 0 + 256 * get_or (record_at s i) (k + 1) 0
-  half-at k h =
-      let next : record_size * i + (k + 1) ≡ record_size * i + k + 1 = omega arith in
-      omega (arith, record-at k (omega arith), rw next at (record-at (k + 1) h))
-
-  pub energy_at : (keyword_at s i).energy ≡ half_at s (record_size * i + 16) + 65536 * half_at s (record_size * i + 18)
+  pub energy_at : (keyword_at s i).energy
+      ≡ get_or s (record_size * i + 16) 0
+      + 256 * get_or s (record_size * i + 16 + 1) 0
+      + 65536 * get_or s (record_size * i + 16 + 2) 0
+      + 16777216 * get_or s (record_size * i + 16 + 3) 0
   unfolding keyword_at keyword_of
-  energy_at = omega (arith, half-at 16 (omega arith), half-at 18 (omega arith))
+  energy_at =
+      let place : (k : ℕ) → record_size * i + (16 + k) ≡ record_size * i + 16 + k = λ k. omega arith in
+      let byte : (k : ℕ) → k < 4 → get_or (record_at s i) (16 + k) 0 ≡ get_or s (record_size * i + 16 + k) 0
+      = λ k h. record-at (16 + k) (omega arith) ∙ ap (λ (m : ℕ). get_or s m 0) (place k) in
+      omega (arith, record-at 16 (omega arith), byte 1 (omega arith), byte 2 (omega arith), byte 3 (omega arith))
 
   pub length_at : get_or (record_at s i) 0 0 ≡ get_or s (record_size * i) 0
   length_at = record-at 0 (omega arith) ∙ ap (λ (m : ℕ). get_or s m 0) (add-zero (record_size * i))

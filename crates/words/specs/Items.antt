@@ -3,7 +3,6 @@ use Rattle.std.specs.Prelude.{ℕ, zero, suc, ◌+◌, ◌*◌, ◌/◌, ◌%◌
 use Rattle.std.proofs.Math.Seq.{paste}
 use Rattle.rules.specs.sets.Limits.{longest_word}
 use Rattle.rules.specs.sets.Sets.{Keyword}
-use Rattle.rules.specs.Beside.{Sound, Named}
 use Rattle.words.specs.declared.Word.{Word}
 
 -- the numbers of a keyword
@@ -38,12 +37,6 @@ pub record Has (l : List ℕ) (i : ℕ) : Type 0 where
   pub words : Words l
   pub within : i < length (keywords_in l)
   pub room : item_size * i + item_size ≤ length l
-
--- and some keyword has the number n
-pub record Numbering (l : List ℕ) (n : ℕ) : Type 0 where
-  pub words : Words l
-  pub sound : Sound (keywords_in l)
-  pub named : Named (keywords_in l) n
 
 -- the keyword that a value is
 abbrev pub word_of : Word → Keyword

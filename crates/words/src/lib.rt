@@ -9,8 +9,9 @@ ghost use Rattle.rules.specs.sets.Limits.{longest_word};
 ghost use Rattle.rules.specs.strings.Strings.{same, ends};
 ghost use Rattle.rules.specs.sets.Sets.{Keyword, shortest, is_keyword};
 ghost use Rattle.rules.specs.rows.Rows.{rows_of};
-ghost use Rattle.rules.specs.Beside.{Sound, nth, common, most_common};
-ghost use Rattle.words.specs.Items.{item_size, Words, Has, keywords_in, Numbering, word_of, stored, Stored};
+ghost use Rattle.rules.specs.Beside.{Sound, nth, common, most_common, Named};
+ghost use Rattle.rules.proofs.sets.Once.{sound_once};
+ghost use Rattle.words.specs.Items.{item_size, Words, Has, keywords_in, word_of, stored, Stored};
 ghost use Rattle.words.specs.Read.{way_of, read_at, earlier};
 
 use rules::{LONGEST, Way};
@@ -20,6 +21,14 @@ pub const ITEM: usize = 19;
 
 // The numbers of a list that is enough for every set.
 pub const LIST: usize = 1216;
+
+// The keywords of a set that passed its tests, in their list.
+#[derive(Clone, Copy)]
+pub struct Keywords<'a> {
+    pub list: &'a [u16],
+    pub ghost shaped: { Words list.now },
+    pub ghost sound: { Sound (keywords_in list.now) } by { sound_once (keywords_in list.now) },
+}
 
 // A keyword as a value: its first `len` units count.
 #[derive(Drop)]
@@ -83,14 +92,14 @@ pub fn unit(words: &[u16], i: usize, n: usize, k: usize, way: Way) -> u16
 
 // How many units two keywords, as they are read, have in common before the first difference. Most differ at once, so
 // their first units are compared before the loop begins.
-fn shared(words: &[u16], i: usize, j: usize, way: Way) -> usize
-    requires { Has words.now i × Has words.now j × Sound (keywords_in words.now) }
-    ensures { result ≡ common (read_at (way_of way) (keywords_in words.now) i)
-        (read_at (way_of way) (keywords_in words.now) j) }
+fn shared(words: Keywords<'_>, i: usize, j: usize, way: Way) -> usize
+    requires { Has words.list.now i × Has words.list.now j }
+    ensures { result ≡ common (read_at (way_of way) (keywords_in words.entry.list.now) i)
+        (read_at (way_of way) (keywords_in words.entry.list.now) j) }
 {
-    let a = length_of(words, i);
-    let b = length_of(words, j);
-    if unit(words, i, a, 0, way) != unit(words, j, b, 0, way) {
+    let a = length_of(words.list, i);
+    let b = length_of(words.list, j);
+    if unit(words.list, i, a, 0, way) != unit(words.list, j, b, 0, way) {
         return 0;
     }
     let mut k = 1;
@@ -101,7 +110,7 @@ fn shared(words: &[u16], i: usize, j: usize, way: Way) -> usize
         if b <= k {
             return k;
         }
-        if unit(words, i, a, k, way) != unit(words, j, b, k, way) {
+        if unit(words.list, i, a, k, way) != unit(words.list, j, b, k, way) {
             return k;
         }
         k += 1;
@@ -170,10 +179,10 @@ pub fn repeated(words: &[u16], i: usize) -> bool
 }
 
 // How much of the keyword at place i, as it is read, an earlier one begins with too.
-pub fn most_shared(words: &[u16], i: usize, way: Way) -> usize
-    requires { Has words.now i × Sound (keywords_in words.now) }
-    ensures { result ≡ most_common (earlier (way_of way) (keywords_in words.now) i)
-        (read_at (way_of way) (keywords_in words.now) i) }
+pub fn most_shared(words: Keywords<'_>, i: usize, way: Way) -> usize
+    requires { Has words.list.now i }
+    ensures { result ≡ most_common (earlier (way_of way) (keywords_in words.entry.list.now) i)
+        (read_at (way_of way) (keywords_in words.entry.list.now) i) }
 {
     let mut most = 0;
     let mut j = 0;
@@ -188,30 +197,29 @@ pub fn most_shared(words: &[u16], i: usize, way: Way) -> usize
 }
 
 // How many rows the keywords have, read one way: each adds what no earlier one begins with.
-pub fn count_rows(words: &[u16], way: Way) -> usize
-    requires { Words words.now × Sound (keywords_in words.now) }
-    ensures { (result ≡ length (rows_of (way_of way) (keywords_in words.now))) × (result < 65536) }
+pub fn count_rows(words: Keywords<'_>, way: Way) -> usize
+    ensures { (result ≡ length (rows_of (way_of way) (keywords_in words.entry.list.now)))
+        × (result < 65536) }
 {
-    let count = count_of(words);
+    let count = count_of(words.list);
     let mut rows = 1;
     let mut i = 0;
     while i < count {
-        rows += length_of(words, i) - most_shared(words, i, way);
+        rows += length_of(words.list, i) - most_shared(words, i, way);
         i += 1;
     }
     rows
 }
 
 // The length of the shortest keyword.
-pub fn shortest_of(words: &[u16]) -> usize
-    requires { Words words.now × Sound (keywords_in words.now) }
-    ensures { result ≡ shortest (keywords_in words.now) }
+pub fn shortest_of(words: Keywords<'_>) -> usize
+    ensures { result ≡ shortest (keywords_in words.entry.list.now) }
 {
-    let count = count_of(words);
-    let mut least = length_of(words, 0);
+    let count = count_of(words.list);
+    let mut least = length_of(words.list, 0);
     let mut i = 1;
     while i < count {
-        let n = length_of(words, i);
+        let n = length_of(words.list, i);
         if n < least {
             least = n;
         }
@@ -221,17 +229,17 @@ pub fn shortest_of(words: &[u16]) -> usize
 }
 
 // The place of the keyword with a number. Numbers rise, so it is no later than the number says.
-pub fn place_of(words: &[u16], number: usize) -> usize
-    requires { Numbering words.now number }
-    ensures { Has words.now result
-        × ((k : Keyword) → Memᴰ k (keywords_in words.now) → k.number ≡ number
-        → nth (keywords_in words.now) result ≡ k) }
+pub fn place_of(words: Keywords<'_>, number: usize) -> usize
+    requires { Named (keywords_in words.list.now) number }
+    ensures { Has words.entry.list.now result
+        × ((k : Keyword) → Memᴰ k (keywords_in words.entry.list.now) → k.number ≡ number
+        → nth (keywords_in words.entry.list.now) result ≡ k) }
 {
-    let mut i = count_of(words) - 1;
+    let mut i = count_of(words.list) - 1;
     if number < i {
         i = number;
     }
-    while number_of(words, i) != number {
+    while number_of(words.list, i) != number {
         i -= 1;
     }
     i

@@ -5,10 +5,10 @@ use mathlib.Core.List.{List, [], ◌∷◌}
 use lib.ListN.{length, get_or}
 use native.Mathlib.Nat.{pow-suc}
 use native.Mathlib.Omega.{arith}
+use Rattle.std.specs.Prelude.{Result, Ok, Err}
+use Rattle.rules.specs.declared.Totals.{Totals}
 use Rattle.rules.specs.declared.Refusal.{Refusal}
 use Rattle.rules.specs.declared.Refusal.TheVariants.{SetEmpty, SetSize, TooManyKeywords, Length, Padding, Repeated, TraceTooLong, WorkspaceShort, RowFileSize, RowNamesAnother, RowNumber, ByteFileSize, FarNumber, RowBufferShort, ByteBufferShort, AnswerShort}
-use Rattle.rules.specs.declared.Scanned.{Scanned}
-use Rattle.rules.specs.declared.Counted.{Counted}
 use Rattle.rules.specs.sets.Limits.{answer_size}
 use Rattle.rules.specs.answers.Answers.{number_of, place_of, Told, told, told_counted, low_first, answer_bytes}
 
@@ -62,30 +62,30 @@ answer_by_refusal a f (RowBufferShort n) = refl
 answer_by_refusal a f ByteBufferShort = refl
 answer_by_refusal a f AnswerShort = refl
 
-pub told_injective : (r q : Scanned) → told r ≡ told q → r ≡ q
+pub told_injective : (r q : Result Totals Refusal) → told r ≡ told q → r ≡ q
 unfolding answer_by
 told_injective = read_back told scanned_by back
   where
-    found : Told → Scanned
-    found a = Scanned.Found (record { count = a.count; questions = a.questions; energy = a.energy })
+    found : Told → Result Totals Refusal
+    found a = Ok (record { count = a.count; questions = a.questions; energy = a.energy })
 
-    scanned_by : Told → Scanned
-    scanned_by a = answer_by (found a) Scanned.Refused a.number a.place
+    scanned_by : Told → Result Totals Refusal
+    scanned_by a = answer_by (found a) Err a.number a.place
 
-    back : (r : Scanned) → scanned_by (told r) ≡ r
-    back (Scanned.Found t) = refl
-    back (Scanned.Refused r) = answer_by_refusal (found (told (Scanned.Refused r))) Scanned.Refused r
+    back : (r : Result Totals Refusal) → scanned_by (told r) ≡ r
+    back (Ok t) = refl
+    back (Err r) = answer_by_refusal (found (told (Err r))) Err r
 
-pub told_counted_injective : (r q : Counted) → told_counted r ≡ told_counted q → r ≡ q
+pub told_counted_injective : (r q : Result ℕ Refusal) → told_counted r ≡ told_counted q → r ≡ q
 unfolding answer_by
 told_counted_injective = read_back told_counted counted_by back
   where
-    counted_by : Told → Counted
-    counted_by a = answer_by (Counted.Number a.count) Counted.Refused a.number a.place
+    counted_by : Told → Result ℕ Refusal
+    counted_by a = answer_by (Ok a.count) Err a.number a.place
 
-    back : (r : Counted) → counted_by (told_counted r) ≡ r
-    back (Counted.Number n) = refl
-    back (Counted.Refused r) = answer_by_refusal (Counted.Number 0) Counted.Refused r
+    back : (r : Result ℕ Refusal) → counted_by (told_counted r) ≡ r
+    back (Ok n) = refl
+    back (Err r) = answer_by_refusal (Ok 0) Err r
 
 -- The bytes of an answer.
 pub length-answer_bytes : (a : Told) → length (answer_bytes a) ≡ answer_size

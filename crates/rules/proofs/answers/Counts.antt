@@ -3,9 +3,9 @@ use Prim.Native.Nat.{ℕ, ◌≤◌}
 use native.Mathlib.Omega.{arith}
 use mathlib.Core.Path.{◌≡◌, refl, ap}
 use mathlib.Core.Bool.{true}
+use Rattle.std.specs.Prelude.{Ok, Err}
 use Rattle.rules.specs.declared.Refusal.{Refusal}
 use Rattle.rules.specs.declared.Refusal.TheVariants.{SetEmpty, SetSize, TooManyKeywords, Length, Padding, Repeated, TraceTooLong, WorkspaceShort, RowFileSize, RowNamesAnother, RowNumber, ByteFileSize, FarNumber, RowBufferShort, ByteBufferShort, AnswerShort}
-use Rattle.rules.specs.declared.Counted.{Counted}
 use Rattle.rules.specs.answers.Refusals.{Verdict, pass, refuse}
 use Rattle.rules.specs.answers.Answers.{Told, number_of, place_of, told_count, told_counted, told_refusal}
 use Rattle.rules.specs.answers.Promises.{on_pass, answer_or}
@@ -43,13 +43,13 @@ unfolding answer_or on_pass
 answer_passed a e = rw e
 
 -- what a number says, and what a refusal
-pub counted_number : {m : ℕ} (n : ℕ) (v : Verdict) → Numbered v → told_counted (Counted.Number m) ≡ answer_or (told_count n) v → (v ≡ pass) × (m ≡ n)
+pub counted_number : {m : ℕ} (n : ℕ) (v : Verdict) → Numbered v → told_counted (Ok m) ≡ answer_or (told_count n) v → (v ≡ pass) × (m ≡ n)
 unfolding answer_or on_pass
 counted_number {m} n v numbered e =
     let passed : v ≡ pass = answered_passed (told_count n) v numbered e refl in
     (passed, ap (λ (a : Told). a.count) (rw passed at e))
 
-pub counted_refused : (fault : Refusal) (a : Told) (v : Verdict) → a.number ≡ 0 → told_counted (Counted.Refused fault) ≡ answer_or a v → v ≡ refuse (number_of fault) (place_of fault)
+pub counted_refused : (fault : Refusal) (a : Told) (v : Verdict) → a.number ≡ 0 → told_counted (Err fault) ≡ answer_or a v → v ≡ refuse (number_of fault) (place_of fault)
 unfolding answer_or on_pass
 counted_refused fault a pass zero e = absurd (omega (arith, ap (λ (t : Told). t.number) e, refusal-numbered fault))
 counted_refused fault a (refuse n p) zero e =

@@ -7,6 +7,7 @@ use mathlib.Core.List.Memᴰ
 use mathlib.Core.List.{List, [], ◌∷◌, ◌++◌, append-nil, Memᴰ}
 use lib.ListN.{length}
 use lib.Dec.{eqb}
+use Rattle.std.specs.List.{list_any}
 use borrow.Author.Tests.{eqb-true, eq-eqb}
 use Rattle.rules.specs.strings.Strings.{same, begins, suffixes, any, ends, keep}
 
@@ -131,6 +132,12 @@ pub any_mem {ℓ} : {A : Type ℓ} (p : A → Bool) {a : A} {l : List A} → Mem
 unfolding any
 any_mem p {a} (Memᴰ.head {x = x} {xs = xs} e) q = or_left (any p xs) (sym (ap p e) ∙ q)
 any_mem p (Memᴰ.tail {x = x} m) q = or_right (p x) (any_mem p m q)
+
+-- it is the library's, which says what an iterator's `any` answers
+pub any_listed : {A : Type 0} (p : A → Bool) (l : List A) → any p l ≡ list_any p l
+unfolding any
+any_listed p [] = refl
+any_listed p (a ∷ l) = ap (λ b. p a || b) (any_listed p l)
 
 pub any_append {ℓ} : {A : Type ℓ} (p : A → Bool) (a b : List A) → any p (a ++ b) ≡ (any p a || any p b)
 unfolding any

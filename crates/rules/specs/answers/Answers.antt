@@ -1,9 +1,8 @@
 -- What document 01 says of each answer: its number, its place and its values.
-use Rattle.std.specs.Prelude.{ℕ, zero, suc, ◌/◌, ◌%◌, List, [], ◌∷◌, ◌++◌}
+use Rattle.std.specs.Prelude.{ℕ, zero, suc, ◌/◌, ◌%◌, List, [], ◌∷◌, ◌++◌, Result, Ok, Err}
+use Rattle.rules.specs.declared.Totals.{Totals}
 use Rattle.rules.specs.declared.Refusal.{Refusal}
 use Rattle.rules.specs.declared.Refusal.TheVariants.{SetEmpty, SetSize, TooManyKeywords, Length, Padding, Repeated, TraceTooLong, WorkspaceShort, RowFileSize, RowNamesAnother, RowNumber, ByteFileSize, FarNumber, RowBufferShort, ByteBufferShort, AnswerShort}
-use Rattle.rules.specs.declared.Scanned.{Scanned}
-use Rattle.rules.specs.declared.Counted.{Counted}
 
 -- document 01's table of refusals: the number, and the place or 0 where none is named; no refusal has the number 7
 abbrev pub number_and_place : Refusal → ℕ × ℕ
@@ -43,19 +42,19 @@ abbrev pub told_refusal : ℕ → ℕ → Told
 told_refusal n p = record { number = n; place = p; count = 0; questions = 0; energy = 0 }
 
 -- what a scan answers
-abbrev pub told : Scanned → Told
-told (Scanned.Found t) =
+abbrev pub told : Result Totals Refusal → Told
+told (Ok t) =
     record { number = 0; place = 0; count = t.count; questions = t.questions; energy = t.energy }
-told (Scanned.Refused r) = told_refusal (number_of r) (place_of r)
+told (Err r) = told_refusal (number_of r) (place_of r)
 
 -- a number alone, of keywords or of rows: it stands where a scan has its count
 abbrev pub told_count : ℕ → Told
 told_count n = record { number = 0; place = 0; count = n; questions = 0; energy = 0 }
 
 -- what tests answer, and making and the check
-abbrev pub told_counted : Counted → Told
-told_counted (Counted.Number n) = told_count n
-told_counted (Counted.Refused r) = told_refusal (number_of r) (place_of r)
+abbrev pub told_counted : Result ℕ Refusal → Told
+told_counted (Ok n) = told_count n
+told_counted (Err r) = told_refusal (number_of r) (place_of r)
 
 -- the n low bytes of x, the lowest first
 unfoldable pub low_first : ℕ → ℕ → List ℕ

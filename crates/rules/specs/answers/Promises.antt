@@ -1,5 +1,6 @@
 -- What each of the five jobs promises on every input: its answer in numbers, and each lent buffer afterwards.
-use Rattle.std.specs.Prelude.{ℕ, ◌≡◌, List, length}
+use Rattle.std.specs.Prelude.{ℕ, ◌≡◌, List, length, Result, Ok, Err}
+use Rattle.rules.specs.declared.Refusal.{Refusal}
 use Rattle.rules.specs.sets.Sets.{Keyword, keywords}
 use Rattle.rules.specs.rows.Rows.{Way, forward, backward, rows_of, cells}
 use Rattle.rules.specs.scans.Hits.{hits, energy, over, hit_buffer}
@@ -7,7 +8,12 @@ use Rattle.rules.specs.scans.Questions.{questions}
 use Rattle.rules.specs.skips.Skips.{row_file, byte_file}
 use Rattle.rules.specs.skips.Runs.{run_questions}
 use Rattle.rules.specs.answers.Refusals.{Verdict, pass, refuse, or_else, file_verdict, trace_verdict, workspace_verdict, entry_verdict, table_verdict, buffer_verdict, answer_verdict}
-use Rattle.rules.specs.answers.Answers.{Told, told_refusal, told_count, answer_bytes}
+use Rattle.rules.specs.answers.Answers.{Told, number_of, place_of, told_refusal, told_count, answer_bytes}
+
+-- document 01's verdict by the code's answer: whatever a test or a job gives where it passes
+abbrev pub verdict_of : {A : Type 0} → Result A Refusal → Verdict
+verdict_of (Ok a) = pass
+verdict_of (Err fault) = refuse (number_of fault) (place_of fault)
 
 -- what is left on a refusal, and what where there is none
 unfoldable pub on_pass {ℓ} : {A : Type ℓ} → (ℕ → ℕ → A) → A → Verdict → A

@@ -1,59 +1,31 @@
--- The records before the one at hand passed and their keywords are kept, so the first fault of the next one is the
--- file's.
-use Prim.Native.Nat.{◌+◌, ◌/◌}
-use mathlib.Core.Path.{◌≡◌, refl, sym, ◌∙◌, ap}
-use lib.ListN.{length}
-use native.Mathlib.Omega.{arith}
-use Rattle.rules.specs.sets.Limits.{record_size}
-use Rattle.rules.specs.answers.Answers.{told_count, told_counted}
-use Rattle.rules.proofs.answers.Refused.{numbered_record}
-use Rattle.rules.proofs.answers.Counts.{counted_number, counted_refused}
-use Rattle.sets.proofs.Files.{records_none, records_more, read_empty, read_size, read_many, read_fault, read_all}
+-- The list begins with the set's keywords, so its front is the list of them, and they are sound.
+use Prim.Native.Nat.{◌*◌}
+use mathlib.Core.Path.{◌≡◌, sym}
+use lib.ListN.{take}
+use lib.Seq.{length-take-le}
+use Rattle.rules.specs.sets.Sets.{keywords}
+use Rattle.words.specs.Items.{item_size, Words, keywords_in}
+use Rattle.words.proofs.Storing.{begins_cut}
+use Rattle.rules.proofs.sets.Bytes.{bytes_sound}
 use Rattle.sets.proofs.read.Goals as goal
+use Rattle.sets.proofs.read.Goals.{In_ok-count}
 
-pub returns-then-size-eq0 : goal.returns-then-size-eq0
-returns-then-size-eq0 c = read_empty _ c.if-size-eq0.true
+-- the front is the list of the set's keywords
+front : (c : In_ok-count)
+    → let l = take (item_size * c.in_ok-count.count) c.gather.new.list in
+    Words l × (keywords_in l ≡ keywords c.args.set.now)
+front c = let (passed, count, begins) = c.in_ok-count.ensures in begins_cut c.in_ok-count.count count begins
 
-pub returns-then-size-ne0 : goal.returns-then-size-ne0
-returns-then-size-ne0 c = read_size _ c.if-size-eq0.false c.if-size-ne0.true
+pub slice_bounds-result-end : goal.slice_bounds-result-end
+slice_bounds-result-end c = let (passed, count, begins) = c.in_ok-count.ensures in sym (length-take-le _ _ (rw count begins.room))
 
-pub returns-then-count-gt-KEYWORDS : goal.returns-then-count-gt-KEYWORDS
-returns-then-count-gt-KEYWORDS c = read_many _ c.if-size-eq0.false c.if-size-ne0.false c.if-count-gt-KEYWORDS.true
-
-pub loop-i-init : goal.loop-i-init
-loop-i-init c = (records_none _ c.requires, omega arith, refl)
-
-pub read_record-found-requires : goal.read_record-found-requires
-read_record-found-requires c =
-    let so = c.loop-i.invariant.0 in
-    record { whole = omega arith; few = omega arith; room = so.room; passed = so.passed; begins = so.begins }
-
-pub shape_of-words-in-Refused : goal.shape_of-words-in-Refused
-shape_of-words-in-Refused c = c.read_record-found.auto.words ∙ c.loop-i.invariant.2
-
-pub returns-in-Refused : goal.returns-in-Refused
-returns-in-Refused c =
-    let told = c.read_record-found.ensures.told in
-    let fault = c.in-Refused.fault in
-    read_fault _ c.if-size-eq0.false c.if-size-ne0.false c.if-count-gt-KEYWORDS.false fault c.loop-i.invariant.0
-    c.loop-i-test.true
-    (counted_refused fault (told_count (c.loop-i.i + 1)) _ refl (sym (ap told_counted c.in-Refused.is) ∙ told))
-
-pub loop-i-preserved : goal.loop-i-preserved
-loop-i-preserved c =
-    let told = sym (ap told_counted c.in_default.is) ∙ c.read_record-found.ensures.told in (
-      records_more c.loop-i.invariant.0 c.read_record-found.auto.words (counted_number _ _ (numbered_record _ _ _) told).0 c.read_record-found.ensures,
-      omega arith,
-      c.read_record-found.auto.words ∙ c.loop-i.invariant.2,
-    )
-
-pub shape_of-words : goal.shape_of-words
-shape_of-words c = c.loop-i.invariant.2
+pub invariant_of-result : goal.invariant_of-result
+invariant_of-result c =
+    let (words, holds) = front (goal.at.invariant_of-result c).In_ok-count in
+    record {
+      shaped = words;
+      sound = rw holds (bytes_sound c.args.set.now (λ i. (c.type_inv.set i).fits) (c.in_ok-count.ensures).0);
+    }
 
 pub returns : goal.returns
-returns c =
-    let s = c.args.set.now in
-    let all : c.loop-i.i ≡ length s / record_size = omega (arith, c.loop-i.invariant.1) in
-    read_all s c.if-size-eq0.false c.if-size-ne0.false c.if-count-gt-KEYWORDS.false
-    (λ i. (c.shared_slice_known-1.given i).fits)
-    (rw all at c.loop-i.invariant.0)
+returns c = ((c.in_ok-count.ensures).0, (front (goal.at.returns c).In_ok-count).1)

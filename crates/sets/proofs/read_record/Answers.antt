@@ -17,12 +17,12 @@ use Rattle.sets.proofs.read_record.Goals.{After-put}
 -- what was known before the record, and that its keyword is stored
 reading : (c : After-put)
     → let a = c.args in
-    Reading a.set.now a.i a.words.now
+    Reading a.set.now a.i a.list.now
 reading c = c.requires
 
 stored : (c : After-put)
     → let a = c.args in
-    Stored a.words.now a.i (keyword_at a.set.now a.i) c.put.new.words
+    Stored a.list.now a.i (keyword_at a.set.now a.i) c.put.new.words
 stored c = rw c.word.ensures.0 at c.put.ensures.1
 
 -- it is as long as it was

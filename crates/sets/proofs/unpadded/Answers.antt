@@ -1,16 +1,17 @@
--- The padding bytes passed are zeros, so the bytes from k on decide.
-use native.Mathlib.Omega.{arith}
-use Rattle.sets.proofs.Padding.{padded_none, padded_all, padded_stop, padded_more}
+-- The padding is a part of the set, and `any` asks each of its bytes whether it is another than zero.
+use mathlib.Core.Path.{sym, ◌∙◌}
+use Prim.Native.Nat.{◌+◌, ◌-◌, ◌*◌}
+use mathlib.Core.Bool.{not}
+use lib.ListN.{take, drop}
+use Rattle.rules.specs.sets.Limits.{record_size}
+use lib.Dec.{eqb}
+use Rattle.std.proofs.Common.{rules, tests}
+use Rattle.std.proofs.lemmas.Iterator.{YieldsList-from_slice}
+use Rattle.std.proofs.lemmas.Iterator.Search.{any_from_yields_List}
+use Rattle.sets.proofs.Padding.{padding_listed}
 use Rattle.sets.proofs.unpadded.Goals as goal
 
-pub loop-k-init : goal.loop-k-init
-loop-k-init c = padded_none c.requires
-
-pub returns-then-set-i-ne0 : goal.returns-then-set-i-ne0
-returns-then-set-i-ne0 c = padded_stop c.loop-k.invariant (omega arith) c.if-set-i-ne0.true
-
-pub loop-k-preserved : goal.loop-k-preserved
-loop-k-preserved c = padded_more c.loop-k.invariant (omega arith) c.if-set-i-ne0.false
-
 pub returns : goal.returns
-returns c = padded_all c.loop-k.invariant (omega arith)
+returns c =
+    any_from_yields_List (λ b. not (eqb b 0)) _ _ _ c.any.ensures.ran (YieldsList-from_slice (take (record_size * c.args.i + 16 - (record_size * c.args.i + 1 + c.args.n)) (drop (record_size * c.args.i + 1 + c.args.n) c.args.set.now)) cc) (λ x b q k. search (rules, tests))
+    ∙ sym (padding_listed _ _ _ c.requires)

@@ -10,7 +10,7 @@ use Rattle.words.proofs.count_rows.Given as goal
 
 abbrev pub invariant-loop-i : goal.invariant-loop-i
 invariant-loop-i l =
-    (l.i ≤ l.count) × (l.rows ≡ length (rows_of (way_of l.way) (take l.i (keywords_in l.words)))) × (l.rows ≤ 1 + longest_word * l.i)
+    (l.i ≤ l.count) × (l.rows ≡ length (rows_of (way_of l.way) (take l.i (keywords_in l.words.list.now)))) × (l.rows ≤ 1 + longest_word * l.i)
 
 abbrev pub decreases-loop-i : goal.decreases-loop-i
 decreases-loop-i l = l.count - l.i

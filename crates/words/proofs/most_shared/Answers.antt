@@ -14,13 +14,13 @@ loop-j-init c = (omega arith, most_none _ _ _)
 pub shared-n-requires : goal.shared-n-requires
 shared-n-requires c =
     let p = c.requires in
-    (has_at p.0.words (omega (arith, p.0.within)), p.0, p.1)
+    (has_at p.words (omega (arith, p.within)), p)
 
 pub loop-j-preserved : goal.loop-j-preserved
 loop-j-preserved c =
     let a = c.args in
-    let ks = keywords_in a.words.now in
-    let more = most_more ks c.loop-j.j (omega (arith, c.requires.0.within)) (way_of a.way) (read_at (way_of a.way) ks a.i) in
+    let ks = keywords_in a.words.list.now in
+    let more = most_more ks c.loop-j.j (omega (arith, c.requires.within)) (way_of a.way) (read_at (way_of a.way) ks a.i) in
     elim c.if-most-n.branch [ then-most-n w ↦ omega (arith, more) | else-most-n w ↦ omega (arith, more) ]
 
 pub returns : goal.returns

@@ -14,35 +14,35 @@ use Rattle.words.proofs.place_of.Goals as goal
 use Rattle.words.proofs.place_of.Goals.{At-loop-i, In-loop-i, else-number-i, then-number-i}
 
 pub overflow_sub-i : goal.overflow_sub-i
-overflow_sub-i c = omega (arith, c.count_of-i.ensures, c.requires.sound.some)
+overflow_sub-i c = omega (arith, c.count_of-i.ensures, c.args.words.sound.some)
 
 pub loop-i-init : goal.loop-i-init
 loop-i-init c =
-    let p = c.requires in
+    let p = c.args.words in
     let count = c.count_of-i.ensures in
     elim c.if-number-i.branch [ then-number-i w ↦ (omega (arith, count, p.sound.some), λ j q e. omega (arith, place_below p.sound j q)) | else-number-i w ↦ (omega (arith, count, p.sound.some), λ j q e. omega (arith, count)) ]
 
 pub number_of-requires : goal.number_of-requires
-number_of-requires c = has_at c.requires.words c.loop-i.invariant.0
+number_of-requires c = has_at c.args.words.shaped c.loop-i.invariant.0
 
 -- where the keyword with the number stands
 place : (c : At-loop-i)
-    → let ks = keywords_in c.args.words.now in
+    → let ks = keywords_in c.args.words.list.now in
     (j : ℕ) × (j < length ks) × ((nth ks j).number ≡ c.args.number)
 place c =
-    let some = c.requires.named in
+    let some = c.requires in
     let (j, within, is) = mem_at some.1 in
     (j, within, ap (λ (k : Keyword). k.number) (is no_keyword) ∙ some.2)
 
 -- not here, so before
 before : (c : In-loop-i) (j : ℕ)
     → let a = c.args in
-    j < length (keywords_in a.words.now)
-    → (nth (keywords_in a.words.now) j).number ≡ a.number
+    j < length (keywords_in a.words.list.now)
+    → (nth (keywords_in a.words.list.now) j).number ≡ a.number
     → j < c.loop-i.i
 before c j q e =
     let a = c.args in
-    let ks = keywords_in a.words.now in
+    let ks = keywords_in a.words.list.now in
     let other : j ≡ c.loop-i.i → ⊥ =
     λ same. c.loop-i-test.true (c.number_of.ensures.0 ∙ ap (λ (i : ℕ). (nth ks i).number) (sym same) ∙ e) in
     lt_of_le_of_ne (c.loop-i.invariant.1 j q e) other
@@ -62,8 +62,8 @@ loop-i-preserved c = (omega (arith, c.loop-i.invariant.0), λ j q e. omega (arit
 
 pub returns : goal.returns
 returns c =
-    let p = c.requires in
+    let p = c.args.words in
     let named = c.number_of.ensures.0 in (
-      has_at p.words c.loop-i.invariant.0,
+      has_at p.shaped c.loop-i.invariant.0,
       λ k m e. place_names p.sound c.loop-i.i c.loop-i.invariant.0 k m (e ∙ sym c.loop-i-test.false ∙ named),
     )

@@ -7,7 +7,7 @@ use Rattle.words.specs.Items.{keywords_in}
 use Rattle.words.proofs.place_of.Given as goal
 
 abbrev pub invariant-loop-i : goal.invariant-loop-i
-invariant-loop-i l = (l.i < length (keywords_in l.words)) × ((j : ℕ) → j < length (keywords_in l.words) → (nth (keywords_in l.words) j).number ≡ l.number → j ≤ l.i)
+invariant-loop-i l = (l.i < length (keywords_in l.words.list.now)) × ((j : ℕ) → j < length (keywords_in l.words.list.now) → (nth (keywords_in l.words.list.now) j).number ≡ l.number → j ≤ l.i)
 
 abbrev pub decreases-loop-i : goal.decreases-loop-i
 decreases-loop-i l = l.i

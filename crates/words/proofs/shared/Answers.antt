@@ -20,23 +20,23 @@ pub unit-requires : goal.unit-requires
 unit-requires c =
     let p = c.requires in
     let long = c.length_of-a.ensures.0 in
-    (p.0, long, omega (arith, long, word_some p.0 p.2))
+    (p.0, long, omega (arith, long, word_some p.0 c.args.words.sound))
 
 pub unit-requires-2 : goal.unit-requires-2
 unit-requires-2 c =
     let p = c.requires in
     let long = c.length_of-b.ensures.0 in
-    (p.1, long, omega (arith, long, word_some p.1 p.2))
+    (p.1, long, omega (arith, long, word_some p.1 c.args.words.sound))
 
 -- both have a first unit, as they are read
 some : (c : After-unit-2)
     → let a = c.args in
-    let ks = keywords_in a.words.now in
+    let ks = keywords_in a.words.list.now in
     (0 < length (read_at (way_of a.way) ks a.i)) × (0 < length (read_at (way_of a.way) ks a.j))
 some c =
     let way = way_of c.args.way in (
-      omega (arith, read_length c.requires.0 way, word_some c.requires.0 c.requires.2),
-      omega (arith, read_length c.requires.1 way, word_some c.requires.1 c.requires.2),
+      omega (arith, read_length c.requires.0 way, word_some c.requires.0 c.args.words.sound),
+      omega (arith, read_length c.requires.1 way, word_some c.requires.1 c.args.words.sound),
     )
 
 pub returns-then-unit : goal.returns-then-unit

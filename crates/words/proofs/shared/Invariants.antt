@@ -9,9 +9,9 @@ use Rattle.words.proofs.shared.Given as goal
 
 abbrev pub invariant-loop-k : goal.invariant-loop-k
 invariant-loop-k l =
-    (l.a ≡ length (read_at (way_of l.way) (keywords_in l.words) l.i))
-    × (l.b ≡ length (read_at (way_of l.way) (keywords_in l.words) l.j))
-    × Agreed (read_at (way_of l.way) (keywords_in l.words) l.i) (read_at (way_of l.way) (keywords_in l.words) l.j) l.k
+    (l.a ≡ length (read_at (way_of l.way) (keywords_in l.words.list.now) l.i))
+    × (l.b ≡ length (read_at (way_of l.way) (keywords_in l.words.list.now) l.j))
+    × Agreed (read_at (way_of l.way) (keywords_in l.words.list.now) l.i) (read_at (way_of l.way) (keywords_in l.words.list.now) l.j) l.k
 
 abbrev pub decreases-loop-k : goal.decreases-loop-k
 decreases-loop-k l = l.a - l.k
