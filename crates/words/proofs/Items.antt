@@ -10,11 +10,10 @@ use lib.Dec.{ltb}
 use borrow.Author.Tests.{ltb-true, ltb-false}
 use Rattle.rules.specs.sets.Limits.{longest_word}
 use Rattle.rules.specs.sets.Sets.{Keyword}
-use Rattle.rules.specs.Beside.{Sound, no_keyword, nth}
+use Rattle.rules.specs.Beside.{no_keyword, nth}
 use Rattle.rules.specs.rows.Rows as R
 use Rattle.rules.proofs.strings.Strings.{either}
 use Rattle.rules.proofs.strings.Lists.{get_or_reverse}
-use Rattle.rules.proofs.strings.Orders.{get_or_mem}
 use Rattle.words.specs.Read.{read_at}
 use Rattle.words.specs.Items.{item_size, item_at, items, keywords_in, Words, Has}
 
@@ -79,9 +78,6 @@ module _ {l : List ℕ} {i : ℕ} (has : Has l i) where
 
   pub word_short : length (nth (keywords_in l) i).word ≤ longest_word
   word_short = omega (arith, word-length, has_short)
-
-  pub word_some : Sound (keywords_in l) → 0 < length (nth (keywords_in l) i).word
-  word_some sound = omega (arith, sound.filled _ (get_or_mem (keywords_in l) no_keyword i has.within))
 
   word_at : (k : ℕ) → k < length (nth (keywords_in l) i).word → get_or (nth (keywords_in l) i).word k 0 ≡ get_or l (item_size * i + 2 + k) 0
   word_at k h =

@@ -39,13 +39,6 @@ pub struct Word {
     pub energy: u32,
 }
 
-// A number of the list to count with.
-fn wide(x: u16) -> usize
-    ensures { (result ≡ x) × (result < 65536) }
-{
-    x as usize
-}
-
 // How many keywords the list holds.
 pub fn count_of(words: &[u16]) -> usize
     ensures { result ≡ length (keywords_in words.now) }
@@ -58,7 +51,7 @@ pub fn number_of(words: &[u16], i: usize) -> usize
     requires { Has words.now i }
     ensures { (result ≡ (nth (keywords_in words.now) i).number) × (result < 65536) }
 {
-    wide(words[ITEM * i])
+    usize::from(words[ITEM * i])
 }
 
 // Its length.
@@ -66,7 +59,7 @@ pub fn length_of(words: &[u16], i: usize) -> usize
     requires { Has words.now i }
     ensures { (result ≡ length (nth (keywords_in words.now) i).word) × (result < 16) }
 {
-    wide(words[ITEM * i + 1])
+    usize::from(words[ITEM * i + 1])
 }
 
 // Its energy in picojoules.
@@ -74,9 +67,9 @@ pub fn energy_of(words: &[u16], i: usize) -> u64
     requires { Has words.now i }
     ensures { (result ≡ (nth (keywords_in words.now) i).energy) × (result < 4294967296) }
 {
-    let low = wide(words[ITEM * i + 17]);
-    let high = wide(words[ITEM * i + 18]);
-    (low + 65536 * high) as u64
+    let low = u64::from(words[ITEM * i + 17]);
+    let high = u64::from(words[ITEM * i + 18]);
+    low + 65536 * high
 }
 
 // Unit k of the keyword at place i, whose length is n, as it is read.
@@ -90,8 +83,7 @@ pub fn unit(words: &[u16], i: usize, n: usize, k: usize, way: Way) -> u16
     }
 }
 
-// How many units two keywords, as they are read, have in common before the first difference. Most differ at once, so
-// their first units are compared before the loop begins.
+// How many units two keywords, as they are read, have in common before the first difference.
 fn shared(words: Keywords<'_>, i: usize, j: usize, way: Way) -> usize
     requires { Has words.list.now i × Has words.list.now j }
     ensures { result ≡ common (read_at (way_of way) (keywords_in words.entry.list.now) i)
@@ -99,22 +91,13 @@ fn shared(words: Keywords<'_>, i: usize, j: usize, way: Way) -> usize
 {
     let a = length_of(words.list, i);
     let b = length_of(words.list, j);
-    if unit(words.list, i, a, 0, way) != unit(words.list, j, b, 0, way) {
-        return 0;
-    }
-    let mut k = 1;
-    loop {
-        if a <= k {
-            return k;
-        }
-        if b <= k {
-            return k;
-        }
+    let least = a.min(b);
+    for k in 0..least {
         if unit(words.list, i, a, k, way) != unit(words.list, j, b, k, way) {
             return k;
         }
-        k += 1;
     }
+    least
 }
 
 // The units of the keyword at place i, as they stand in the list.
@@ -127,38 +110,11 @@ pub fn units_of(words: &[u16], i: usize) -> &[u16]
     &words[from..to]
 }
 
-// Whether a string ends with another. Most differ at once here too.
+// Whether a string ends with another.
 pub fn ends_with(string: &[u16], other: &[u16]) -> bool
     ensures { result ≡ ends other.now string.now }
 {
-    if string.len() < other.len() {
-        return false;
-    }
-    if other.len() == 0 {
-        return true;
-    }
-    let from = string.len() - other.len();
-    if string[from] != other[0] {
-        return false;
-    }
-    let mut k = 1;
-    while k < other.len() {
-        if string[from + k] != other[k] {
-            return false;
-        }
-        k += 1;
-    }
-    true
-}
-
-// Whether a string is another.
-fn same_string(string: &[u16], other: &[u16]) -> bool
-    ensures { result ≡ same string.now other.now }
-{
-    if string.len() != other.len() {
-        return false;
-    }
-    ends_with(string, other)
+    string.ends_with(other)
 }
 
 // Whether an earlier keyword has the units of the one at place i.
@@ -167,13 +123,11 @@ pub fn repeated(words: &[u16], i: usize) -> bool
     ensures { result ≡ is_keyword (take i (keywords_in words.now)) (nth (keywords_in words.now) i).word }
 {
     let word = units_of(words, i);
-    let mut j = 0;
-    while j < i {
+    for j in 0..i {
         let earlier = units_of(words, j);
-        if same_string(earlier, word) {
+        if earlier == word {
             return true;
         }
-        j += 1;
     }
     false
 }
@@ -185,13 +139,8 @@ pub fn most_shared(words: Keywords<'_>, i: usize, way: Way) -> usize
         (read_at (way_of way) (keywords_in words.entry.list.now) i) }
 {
     let mut most = 0;
-    let mut j = 0;
-    while j < i {
-        let n = shared(words, j, i, way);
-        if most < n {
-            most = n;
-        }
-        j += 1;
+    for j in 0..i {
+        most = most.max(shared(words, j, i, way));
     }
     most
 }
@@ -201,12 +150,9 @@ pub fn count_rows(words: Keywords<'_>, way: Way) -> usize
     ensures { (result ≡ length (rows_of (way_of way) (keywords_in words.entry.list.now)))
         × (result < 65536) }
 {
-    let count = count_of(words.list);
     let mut rows = 1;
-    let mut i = 0;
-    while i < count {
+    for i in 0..count_of(words.list) {
         rows += length_of(words.list, i) - most_shared(words, i, way);
-        i += 1;
     }
     rows
 }
@@ -215,15 +161,9 @@ pub fn count_rows(words: Keywords<'_>, way: Way) -> usize
 pub fn shortest_of(words: Keywords<'_>) -> usize
     ensures { result ≡ shortest (keywords_in words.entry.list.now) }
 {
-    let count = count_of(words.list);
     let mut least = length_of(words.list, 0);
-    let mut i = 1;
-    while i < count {
-        let n = length_of(words.list, i);
-        if n < least {
-            least = n;
-        }
-        i += 1;
+    for i in 1..count_of(words.list) {
+        least = least.min(length_of(words.list, i));
     }
     least
 }
@@ -235,14 +175,12 @@ pub fn place_of(words: Keywords<'_>, number: usize) -> usize
         × ((k : Keyword) → Memᴰ k (keywords_in words.entry.list.now) → k.number ≡ number
         → nth (keywords_in words.entry.list.now) result ≡ k) }
 {
-    let mut i = count_of(words.list) - 1;
-    if number < i {
-        i = number;
+    for i in (0..count_of(words.list).min(number + 1)).rev() {
+        if number_of(words.list, i) == number {
+            return i;
+        }
     }
-    while number_of(words.list, i) != number {
-        i -= 1;
-    }
-    i
+    unreachable!()
 }
 
 // The units of a keyword, from a place of the list on.
@@ -250,11 +188,7 @@ fn put_units(words: &mut [u16], from: usize, units: [u16; LONGEST])
     requires { from + longest_word ≤ length words.old }
     ensures { (words.new ≡ paste words.old from units longest_word) × (length units ≡ longest_word) }
 {
-    let mut k = 0;
-    while k < LONGEST {
-        words[from + k] = units[k];
-        k += 1;
-    }
+    words[from..from + LONGEST].copy_from_slice(&units);
 }
 
 // A keyword at place i of a list with room for it.

@@ -8,7 +8,10 @@ use mathlib.Core.List.{List, [], ◌∷◌, ◌++◌, map, reverse, reverse-appe
 use lib.ListN.{length, take, drop, get_or, length-append, length-drop, length-reverse, take-append-drop}
 use lib.Seq.{take-nil, drop_at, take_at}
 use Rattle.rules.specs.strings.Strings.{same, ends}
-use Rattle.rules.proofs.strings.Strings.{fails, same_outcome, same_true, eq-same, same_sym, ends_true, ends_by}
+use lib.Dec.{eqb, ltb}
+use lib.Pointwise.{pointwise, pointwise_long}
+use borrow.Author.Tests.{ltb-true, ltb-false}
+use Rattle.rules.proofs.strings.Strings.{either, fails, same_listed, same_outcome, same_true, eq-same, same_sym, ends_true, ends_by}
 
 -- what is left of a front is a front of what is left
 pub drop-take {ℓ} : {A : Type ℓ} (m n : ℕ) (l : List A) → drop m (take n l) ≡ take (n - m) (drop m l)
@@ -50,6 +53,16 @@ pub ends-longer : (e s : List ℕ) → length s < length e → ends e s ≡ fals
 ends-longer e s h =
     fails (ends e s)
     (λ t. let w = ends_true e s t in omega (arith, ap length w.1, length-append w.0 e))
+
+-- it is the library's `ends_with`
+pub ends_listed : (e s : List ℕ) → ends e s ≡ pointwise eqb e (drop (length s - length e) s)
+ends_listed e s =
+    either (ltb (length s) (length e))
+    (λ t.
+    let longer : length s < length e = ltb-true (length s) (length e) t in
+    ends-longer e s longer
+    ∙ sym (fails (pointwise eqb e (drop (length s - length e) s)) (λ u. omega (arith, pointwise_long eqb e (drop (length s - length e) s) u, length-drop (length s - length e) s))))
+    (λ f. ends_part e s (ltb-false (length s) (length e) f) ∙ same_listed e (drop (length s - length e) s))
 
 -- of its own length only the string itself
 pub ends_same : (s e : List ℕ) → length s ≡ length e → ends e s ≡ same s e

@@ -5,8 +5,8 @@ use mathlib.Core.Logic.{◌⊎◌, inl, inr}
 use mathlib.Core.Bool.{Bool, true, false, ◌&&◌, ◌||◌, cond, true≢false, or_assoc}
 use mathlib.Core.List.Memᴰ
 use mathlib.Core.List.{List, [], ◌∷◌, ◌++◌, append-nil, Memᴰ}
-use lib.ListN.{length}
 use lib.Dec.{eqb}
+use lib.Pointwise.{pointwise}
 use Rattle.std.specs.List.{list_any}
 use borrow.Author.Tests.{eqb-true, eq-eqb}
 use Rattle.rules.specs.strings.Strings.{same, begins, suffixes, any, ends, keep}
@@ -76,10 +76,6 @@ same_true (x ∷ a) (y ∷ b) h =
     let tail : a ≡ b = same_true a b (and_right (eqb x y) (same a b) h) in
     cc
 
--- strings of two lengths never are
-pub same_unlike : (a b : List ℕ) → (length a ≡ length b → ⊥) → same a b ≡ false
-same_unlike a b h = fails (same a b) (λ t. h (ap length (same_true a b t)))
-
 pub same_refl : (a : List ℕ) → same a a ≡ true
 unfolding same
 same_refl [] = refl
@@ -133,7 +129,14 @@ unfolding any
 any_mem p {a} (Memᴰ.head {x = x} {xs = xs} e) q = or_left (any p xs) (sym (ap p e) ∙ q)
 any_mem p (Memᴰ.tail {x = x} m) q = or_right (p x) (any_mem p m q)
 
--- it is the library's, which says what an iterator's `any` answers
+-- each is the library's word for what its slices and iterators answer
+pub same_listed : (a b : List ℕ) → same a b ≡ pointwise eqb a b
+unfolding same
+same_listed [] [] = refl
+same_listed [] (y ∷ b) = refl
+same_listed (x ∷ a) [] = refl
+same_listed (x ∷ a) (y ∷ b) = ap (λ t. eqb x y && t) (same_listed a b)
+
 pub any_listed : {A : Type 0} (p : A → Bool) (l : List A) → any p l ≡ list_any p l
 unfolding any
 any_listed p [] = refl

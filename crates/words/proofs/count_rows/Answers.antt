@@ -13,14 +13,14 @@ use Rattle.words.proofs.count_rows.Goals.{At-loop-i}
 
 -- there is a keyword at each place that is passed
 has : (c : At-loop-i)
-    → c.loop-i.i < c.count_of-count.result
+    → c.loop-i.i < c.count_of-i-end.result
     → Has c.args.words.list.now c.loop-i.i
-has c below = has_at c.args.words.shaped (omega (arith, c.count_of-count.ensures))
+has c below = has_at c.args.words.shaped (omega (arith, c.count_of-i-end.ensures))
 
 pub loop-i-init : goal.loop-i-init
 loop-i-init c =
     let a = c.args in
-    (omega arith, rows_none (way_of a.way) (keywords_in a.words.list.now), omega arith)
+    (rows_none (way_of a.way) (keywords_in a.words.list.now), omega arith)
 
 pub length_of-requires : goal.length_of-requires
 length_of-requires c = has (goal.at.length_of-requires c).At-loop-i c.loop-i-test.true
@@ -36,21 +36,20 @@ overflow_sub-rows c =
 
 pub overflow_add-rows : goal.overflow_add-rows
 overflow_add-rows c =
-    omega (arith, c.length_of.ensures.1, c.count_of-count.ensures, c.args.words.sound.few)
+    omega (arith, c.length_of.ensures.1, c.count_of-i-end.ensures, c.args.words.sound.few)
 
 pub loop-i-preserved : goal.loop-i-preserved
 loop-i-preserved c =
     let ks = keywords_in c.args.words.list.now in
     let way = way_of c.args.way in
     let more = rows_more ks c.loop-i.i (has (goal.at.loop-i-preserved c).At-loop-i c.loop-i-test.true).within way in (
-      omega arith,
-      sym (rw (more, ← c.loop-i.invariant.1, ← c.most_shared.ensures, ← c.length_of.ensures.0)),
+      sym (rw (more, ← c.loop-i.invariant.0, ← c.most_shared.ensures, ← c.length_of.ensures.0)),
       omega (arith, c.length_of.ensures.1),
     )
 
 pub returns : goal.returns
 returns c =
     let ks = keywords_in c.args.words.list.now in
-    let count = c.count_of-count.ensures in
+    let count = c.count_of-i-end.ensures in
     let all : take c.loop-i.i ks ≡ ks = take_all c.loop-i.i ks (omega (arith, count)) in
-    (rw all at c.loop-i.invariant.1, omega (arith, c.args.words.sound.few, count))
+    (rw all at c.loop-i.invariant.0, omega (arith, c.args.words.sound.few, count))

@@ -1,5 +1,5 @@
--- What each turn keeps, and what falls.
-use Prim.Native.Nat.{◌+◌, ◌-◌, ◌*◌, ◌≤◌}
+-- What each turn keeps.
+use Prim.Native.Nat.{◌+◌, ◌*◌, ◌≤◌}
 use mathlib.Core.Path.{◌≡◌}
 use lib.ListN.{length, take}
 use Rattle.rules.specs.sets.Limits.{longest_word}
@@ -10,7 +10,4 @@ use Rattle.words.proofs.count_rows.Given as goal
 
 abbrev pub invariant-loop-i : goal.invariant-loop-i
 invariant-loop-i l =
-    (l.i ≤ l.count) × (l.rows ≡ length (rows_of (way_of l.way) (take l.i (keywords_in l.words.list.now)))) × (l.rows ≤ 1 + longest_word * l.i)
-
-abbrev pub decreases-loop-i : goal.decreases-loop-i
-decreases-loop-i l = l.count - l.i
+    (l.rows ≡ length (rows_of (way_of l.way) (take l.i (keywords_in l.words.list.now)))) × (l.rows ≤ 1 + longest_word * l.i)

@@ -5,4 +5,4 @@ use Rattle.words.proofs.Items.{word-length, has_short}
 use Rattle.words.proofs.length_of.Goals as goal
 
 pub returns : goal.returns
-returns c = (c.wide.ensures.0 ∙ sym (word-length c.requires), omega (arith, c.wide.ensures.0, has_short c.requires))
+returns c = (c.from.ensures ∙ sym (word-length c.requires), omega (arith, c.from.ensures, has_short c.requires))

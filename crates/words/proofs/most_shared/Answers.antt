@@ -6,13 +6,12 @@ use Rattle.words.specs.Read.{way_of, read_at}
 use Rattle.words.proofs.Items.{has_at}
 use Rattle.words.proofs.Counted.{most_none, most_more}
 use Rattle.words.proofs.most_shared.Goals as goal
-use Rattle.words.proofs.most_shared.Goals.{else-most-n, then-most-n}
 
 pub loop-j-init : goal.loop-j-init
-loop-j-init c = (omega arith, most_none _ _ _)
+loop-j-init c = most_none _ _ _
 
-pub shared-n-requires : goal.shared-n-requires
-shared-n-requires c =
+pub shared-requires : goal.shared-requires
+shared-requires c =
     let p = c.requires in
     (has_at p.words (omega (arith, p.within)), p)
 
@@ -21,9 +20,9 @@ loop-j-preserved c =
     let a = c.args in
     let ks = keywords_in a.words.list.now in
     let more = most_more ks c.loop-j.j (omega (arith, c.requires.within)) (way_of a.way) (read_at (way_of a.way) ks a.i) in
-    elim c.if-most-n.branch [ then-most-n w ↦ omega (arith, more) | else-most-n w ↦ omega (arith, more) ]
+    grind (arith, more)
 
 pub returns : goal.returns
 returns c =
     let all : c.loop-j.j ≡ c.args.i = omega arith in
-    rw all at c.loop-j.invariant.1
+    rw all at c.loop-j.invariant

@@ -1,5 +1,5 @@
--- What each turn keeps, and what falls.
-use Prim.Native.Nat.{ℕ, ◌≤◌, ◌<◌}
+-- What each turn keeps.
+use Prim.Native.Nat.{ℕ, ◌<◌}
 use mathlib.Core.Path.{◌≡◌}
 use lib.ListN.{length}
 use Rattle.rules.specs.Beside.{nth}
@@ -7,7 +7,6 @@ use Rattle.words.specs.Items.{keywords_in}
 use Rattle.words.proofs.place_of.Given as goal
 
 abbrev pub invariant-loop-i : goal.invariant-loop-i
-invariant-loop-i l = (l.i < length (keywords_in l.words.list.now)) × ((j : ℕ) → j < length (keywords_in l.words.list.now) → (nth (keywords_in l.words.list.now) j).number ≡ l.number → j ≤ l.i)
-
-abbrev pub decreases-loop-i : goal.decreases-loop-i
-decreases-loop-i l = l.i
+invariant-loop-i l =
+    let ks = keywords_in l.words.list.now in
+    (j : ℕ) → j < length ks → (nth ks j).number ≡ l.number → j < l.i

@@ -5,18 +5,19 @@ use native.Mathlib.Omega.{arith}
 use Rattle.rules.specs.strings.Strings.{same}
 use Rattle.rules.specs.sets.Sets.{is_keyword}
 use Rattle.rules.specs.Beside.{no_keyword, nth}
+use Rattle.rules.proofs.strings.Strings.{same_listed}
 use Rattle.rules.proofs.strings.Searched.{none_passed, none_more, one_passes}
 use Rattle.words.specs.Items.{keywords_in}
 use Rattle.words.proofs.Items.{has_at}
 use Rattle.words.proofs.repeated.Goals as goal
-use Rattle.words.proofs.repeated.Goals.{After-same_string}
+use Rattle.words.proofs.repeated.Goals.{After-eq}
 
 pub units_of-word-requires : goal.units_of-word-requires
 units_of-word-requires c = c.requires
 
 pub loop-j-init : goal.loop-j-init
 unfolding is_keyword
-loop-j-init c = (omega arith, none_passed _ (keywords_in c.args.words.now))
+loop-j-init c = none_passed _ (keywords_in c.args.words.now)
 
 pub units_of-earlier-requires : goal.units_of-earlier-requires
 units_of-earlier-requires c =
@@ -24,30 +25,28 @@ units_of-earlier-requires c =
     has_at p.words (omega (arith, p.within))
 
 -- the two strings compared are keywords
-compared : (c : After-same_string)
+compared : (c : After-eq)
     → let ks = keywords_in c.args.words.now in
-    c.same_string.result ≡ same (nth ks c.loop-j.j).word (nth ks c.args.i).word
+    c.eq.result ≡ same (nth ks c.loop-j.j).word (nth ks c.args.i).word
 compared c =
-    c.same_string.ensures ∙ rw (c.units_of-earlier.ensures, c.units_of-word.ensures)
+    c.eq.ensures ∙ sym (same_listed c.units_of-earlier.result.now c.units_of-word.result.now) ∙ rw (c.units_of-earlier.ensures, c.units_of-word.ensures)
 
-pub returns-then-same_string : goal.returns-then-same_string
+pub returns-then-eq : goal.returns-then-eq
 unfolding is_keyword
-returns-then-same_string c =
+returns-then-eq c =
     let p = c.requires in
     sym
     (one_passes _ _ no_keyword _ _ c.loop-j-test.true (omega (arith, p.within))
-    (sym (compared (goal.at.returns-then-same_string c).After-same_string) ∙ c.if-same_string.true))
+    (sym (compared (goal.at.returns-then-eq c).After-eq) ∙ c.if-eq.true))
 
 pub loop-j-preserved : goal.loop-j-preserved
 unfolding is_keyword
 loop-j-preserved c =
-    let p = c.requires in (
-      omega arith,
-      none_more _ _ no_keyword c.loop-j.j (omega (arith, p.within)) c.loop-j.invariant.1
-          (sym (compared (goal.at.loop-j-preserved c).After-same_string) ∙ c.if-same_string.false),
-    )
+    let p = c.requires in
+    none_more _ _ no_keyword c.loop-j.j (omega (arith, p.within)) c.loop-j.invariant
+    (sym (compared (goal.at.loop-j-preserved c).After-eq) ∙ c.if-eq.false)
 
 pub returns : goal.returns
 returns c =
     let all : c.loop-j.j ≡ c.args.i = omega arith in
-    sym (rw all at c.loop-j.invariant.1)
+    sym (rw all at c.loop-j.invariant)

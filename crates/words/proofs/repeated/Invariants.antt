@@ -1,5 +1,4 @@
--- What each turn keeps, and what falls.
-use Prim.Native.Nat.{◌-◌, ◌≤◌}
+-- What each turn keeps.
 use mathlib.Core.Path.{◌≡◌}
 use mathlib.Core.Bool.{false}
 use lib.ListN.{take}
@@ -9,7 +8,4 @@ use Rattle.words.specs.Items.{keywords_in}
 use Rattle.words.proofs.repeated.Given as goal
 
 abbrev pub invariant-loop-j : goal.invariant-loop-j
-invariant-loop-j l = (l.j ≤ l.i) × (is_keyword (take l.j (keywords_in l.words)) (nth (keywords_in l.words) l.i).word ≡ false)
-
-abbrev pub decreases-loop-j : goal.decreases-loop-j
-decreases-loop-j l = l.i - l.j
+invariant-loop-j l = is_keyword (take l.j (keywords_in l.words)) (nth (keywords_in l.words) l.i).word ≡ false
