@@ -5,3 +5,4 @@ pub mod Judged
 pub mod Gathered
 pub mod Keeping
 pub mod Files
+pub mod Determined
