@@ -1,11 +1,11 @@
 -- Each number of a keyword stands at its place in the list, so what the list says of a keyword is read off those
 -- places.
-use Prim.Native.Nat.{ℕ, zero, suc, ◌+◌, ◌-◌, ◌*◌, ◌/◌, ◌≤◌, ◌<◌}
+use Prim.Native.Nat.{ℕ, zero, suc, ◌+◌, ◌*◌, ◌/◌, ◌≤◌, ◌<◌}
 use native.Mathlib.Omega.{arith}
 use mathlib.Core.Path.{◌≡◌, refl, ◌∙◌, ap}
 use mathlib.Core.List.{List, [], ◌∷◌}
 use lib.ListN.{length, take, drop, get_or, length-append, length-take, length-drop, length-reverse, get_or-append}
-use lib.Seq.{get_or-take, get_or-drop, get_or_at}
+use lib.Seq.{get_or_at}
 use lib.Dec.{ltb}
 use borrow.Author.Tests.{ltb-true, ltb-false}
 use Rattle.rules.specs.sets.Limits.{longest_word}
@@ -13,8 +13,6 @@ use Rattle.rules.specs.sets.Sets.{Keyword}
 use Rattle.rules.specs.Beside.{no_keyword, nth}
 use Rattle.rules.specs.rows.Rows as R
 use Rattle.rules.proofs.strings.Strings.{either}
-use Rattle.rules.proofs.strings.Lists.{get_or_reverse}
-use Rattle.words.specs.Read.{read_at}
 use Rattle.words.specs.Items.{item_size, item_at, items, keywords_in, Words, Has}
 
 -- the first n keywords, one by one
@@ -79,29 +77,8 @@ module _ {l : List ℕ} {i : ℕ} (has : Has l i) where
   pub word_short : length (nth (keywords_in l) i).word ≤ longest_word
   word_short = omega (arith, word-length, has_short)
 
-  word_at : (k : ℕ) → k < length (nth (keywords_in l) i).word → get_or (nth (keywords_in l) i).word k 0 ≡ get_or l (item_size * i + 2 + k) 0
-  word_at k h =
-      let n : ℕ = get_or l (item_size * i + 1) 0 in
-      ap (λ (w : List ℕ). get_or w k 0) word_is
-      ∙ get_or-take n (drop (item_size * i + 2) l) k 0 (omega (arith, word-length))
-      ∙ get_or-drop (item_size * i + 2) l k 0
-
-  -- as it is read
-  pub read_length : (way : R.Way) → length (read_at way (keywords_in l) i) ≡ length (nth (keywords_in l) i).word
-  unfolding read_at R.read_by
-  read_length R.forward = refl
-  read_length R.backward = length-reverse (nth (keywords_in l) i).word
-
-  module _ {n : ℕ} (long : n ≡ length (nth (keywords_in l) i).word) (k : ℕ) (below : k < n) where
-    pub read_forward : get_or (read_at R.forward (keywords_in l) i) k 0 ≡ get_or l (item_size * i + 2 + k) 0
-    unfolding read_at R.read_by
-    read_forward = word_at k (omega arith)
-
-    pub read_backward : get_or (read_at R.backward (keywords_in l) i) k 0 ≡ get_or l (item_size * i + 1 + n - k) 0
-    unfolding read_at R.read_by
-    read_backward =
-        let w : List ℕ = (nth (keywords_in l) i).word in
-        let place : item_size * i + 2 + (length w - suc k) ≡ item_size * i + 1 + n - k = omega arith in
-        get_or_reverse w k 0 (omega arith)
-        ∙ word_at (length w - suc k) (omega arith)
-        ∙ ap (λ (m : ℕ). get_or l m 0) place
+-- a string as it is read has its length
+pub length-read : (way : R.Way) (s : List ℕ) → length (R.read_by way s) ≡ length s
+unfolding R.read_by
+length-read R.forward s = refl
+length-read R.backward s = length-reverse s

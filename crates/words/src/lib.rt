@@ -8,7 +8,7 @@ ghost use Rattle.std.proofs.Math.Seq.{paste};
 ghost use Rattle.rules.specs.sets.Limits.{longest_word};
 ghost use Rattle.rules.specs.strings.Strings.{same, ends};
 ghost use Rattle.rules.specs.sets.Sets.{Keyword, shortest, is_keyword};
-ghost use Rattle.rules.specs.rows.Rows.{rows_of};
+ghost use Rattle.rules.specs.rows.Rows.{rows_of, read_by};
 ghost use Rattle.rules.specs.Beside.{Sound, nth, common, most_common, Named};
 ghost use Rattle.rules.proofs.sets.Once.{sound_once};
 ghost use Rattle.words.specs.Items.{item_size, Words, Has, keywords_in, word_of, stored, Stored};
@@ -30,7 +30,15 @@ pub struct Keywords<'a> {
     pub ghost sound: { Sound (keywords_in list.now) } by { sound_once (keywords_in list.now) },
 }
 
-// A keyword as a value: its first `len` units count.
+// A keyword as the list has it.
+#[derive(Clone, Copy)]
+pub struct Item<'a> {
+    pub number: u16,
+    pub units: &'a [u16],
+    pub energy: u32,
+}
+
+// A keyword as a value, to be put in a list: its first `len` units count.
 #[derive(Drop)]
 pub struct Word {
     pub number: u16,
@@ -46,68 +54,48 @@ pub fn count_of(words: &[u16]) -> usize
     words.len() / ITEM
 }
 
-// The number of the keyword at place i.
-pub fn number_of(words: &[u16], i: usize) -> usize
+// The keyword at place i.
+pub fn item_at(words: &[u16], i: usize) -> Item<'_>
     requires { Has words.now i }
-    ensures { (result ≡ (nth (keywords_in words.now) i).number) × (result < 65536) }
+    ensures number { result.number ≡ (nth (keywords_in words.now) i).number }
+    ensures units { result.units.now ≡ (nth (keywords_in words.now) i).word }
+    ensures energy { result.energy ≡ (nth (keywords_in words.now) i).energy }
+    ensures short { length result.units.now ≤ longest_word }
 {
-    usize::from(words[ITEM * i])
-}
-
-// Its length.
-pub fn length_of(words: &[u16], i: usize) -> usize
-    requires { Has words.now i }
-    ensures { (result ≡ length (nth (keywords_in words.now) i).word) × (result < 16) }
-{
-    usize::from(words[ITEM * i + 1])
-}
-
-// Its energy in picojoules.
-pub fn energy_of(words: &[u16], i: usize) -> u64
-    requires { Has words.now i }
-    ensures { (result ≡ (nth (keywords_in words.now) i).energy) × (result < 4294967296) }
-{
-    let low = u64::from(words[ITEM * i + 17]);
-    let high = u64::from(words[ITEM * i + 18]);
-    low + 65536 * high
-}
-
-// Unit k of the keyword at place i, whose length is n, as it is read.
-pub fn unit(words: &[u16], i: usize, n: usize, k: usize, way: Way) -> u16
-    requires { Has words.now i × (n ≡ length (nth (keywords_in words.now) i).word) × (k < n) }
-    ensures { result ≡ get_or (read_at (way_of way) (keywords_in words.now) i) k 0 }
-{
-    match way {
-        Way::Forward => words[ITEM * i + 2 + k],
-        Way::Backward => words[ITEM * i + 1 + n - k],
+    let at = ITEM * i;
+    let from = at + 2;
+    let to = from + usize::from(words[at + 1]);
+    let low = u32::from(words[at + 17]);
+    let high = u32::from(words[at + 18]);
+    Item {
+        number: words[at],
+        units: &words[from..to],
+        energy: low + 65536 * high,
     }
 }
 
-// How many units two keywords, as they are read, have in common before the first difference.
-fn shared(words: Keywords<'_>, i: usize, j: usize, way: Way) -> usize
-    requires { Has words.list.now i × Has words.list.now j }
-    ensures { result ≡ common (read_at (way_of way) (keywords_in words.entry.list.now) i)
-        (read_at (way_of way) (keywords_in words.entry.list.now) j) }
+// Unit k of a string as it is read.
+pub fn unit(string: &[u16], k: usize, way: Way) -> u16
+    requires { k < length string.now }
+    ensures { result ≡ get_or (read_by (way_of way) string.now) k 0 }
 {
-    let a = length_of(words.list, i);
-    let b = length_of(words.list, j);
-    let least = a.min(b);
+    match way {
+        Way::Forward => string[k],
+        Way::Backward => string[string.len() - 1 - k],
+    }
+}
+
+// How many units two strings, as they are read, have in common before the first difference.
+fn shared(string: &[u16], other: &[u16], way: Way) -> usize
+    ensures { result ≡ common (read_by (way_of way) string.now) (read_by (way_of way) other.now) }
+{
+    let least = string.len().min(other.len());
     for k in 0..least {
-        if unit(words.list, i, a, k, way) != unit(words.list, j, b, k, way) {
+        if unit(string, k, way) != unit(other, k, way) {
             return k;
         }
     }
     least
-}
-
-// The units of the keyword at place i, as they stand in the list.
-pub fn units_of(words: &[u16], i: usize) -> &[u16]
-    requires { Has words.now i }
-    ensures { result.now ≡ (nth (keywords_in words.now) i).word }
-{
-    let from = ITEM * i + 2;
-    let to = from + length_of(words, i);
-    &words[from..to]
 }
 
 // Whether a string ends with another.
@@ -122,9 +110,9 @@ pub fn repeated(words: &[u16], i: usize) -> bool
     requires { Has words.now i }
     ensures { result ≡ is_keyword (take i (keywords_in words.now)) (nth (keywords_in words.now) i).word }
 {
-    let word = units_of(words, i);
+    let word = item_at(words, i).units;
     for j in 0..i {
-        let earlier = units_of(words, j);
+        let earlier = item_at(words, j).units;
         if earlier == word {
             return true;
         }
@@ -138,9 +126,11 @@ pub fn most_shared(words: Keywords<'_>, i: usize, way: Way) -> usize
     ensures { result ≡ most_common (earlier (way_of way) (keywords_in words.entry.list.now) i)
         (read_at (way_of way) (keywords_in words.entry.list.now) i) }
 {
+    let word = item_at(words.list, i).units;
     let mut most = 0;
     for j in 0..i {
-        most = most.max(shared(words, j, i, way));
+        let earlier = item_at(words.list, j).units;
+        most = most.max(shared(earlier, word, way));
     }
     most
 }
@@ -152,7 +142,7 @@ pub fn count_rows(words: Keywords<'_>, way: Way) -> usize
 {
     let mut rows = 1;
     for i in 0..count_of(words.list) {
-        rows += length_of(words.list, i) - most_shared(words, i, way);
+        rows += item_at(words.list, i).units.len() - most_shared(words, i, way);
     }
     rows
 }
@@ -161,9 +151,9 @@ pub fn count_rows(words: Keywords<'_>, way: Way) -> usize
 pub fn shortest_of(words: Keywords<'_>) -> usize
     ensures { result ≡ shortest (keywords_in words.entry.list.now) }
 {
-    let mut least = length_of(words.list, 0);
+    let mut least = item_at(words.list, 0).units.len();
     for i in 1..count_of(words.list) {
-        least = least.min(length_of(words.list, i));
+        least = least.min(item_at(words.list, i).units.len());
     }
     least
 }
@@ -176,7 +166,7 @@ pub fn place_of(words: Keywords<'_>, number: usize) -> usize
         → nth (keywords_in words.entry.list.now) result ≡ k) }
 {
     for i in (0..count_of(words.list).min(number + 1)).rev() {
-        if number_of(words.list, i) == number {
+        if usize::from(item_at(words.list, i).number) == number {
             return i;
         }
     }

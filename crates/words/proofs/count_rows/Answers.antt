@@ -1,12 +1,12 @@
 -- Each keyword adds to the rows what no earlier one begins with, so the count is that of the keywords passed.
 use Prim.Native.Nat.{◌<◌}
-use mathlib.Core.Path.{◌≡◌, sym}
-use lib.ListN.{take}
+use mathlib.Core.Path.{◌≡◌, sym, ap}
+use lib.ListN.{length, take}
 use lib.Seq.{take_all}
 use native.Mathlib.Omega.{arith}
 use Rattle.words.specs.Items.{Has, keywords_in}
 use Rattle.words.specs.Read.{way_of}
-use Rattle.words.proofs.Items.{has_at, read_length}
+use Rattle.words.proofs.Items.{has_at}
 use Rattle.words.proofs.Counted.{rows_none, rows_more, most_within}
 use Rattle.words.proofs.count_rows.Goals as goal
 use Rattle.words.proofs.count_rows.Goals.{At-loop-i}
@@ -22,8 +22,8 @@ loop-i-init c =
     let a = c.args in
     (rows_none (way_of a.way) (keywords_in a.words.list.now), omega arith)
 
-pub length_of-requires : goal.length_of-requires
-length_of-requires c = has (goal.at.length_of-requires c).At-loop-i c.loop-i-test.true
+pub item_at-requires : goal.item_at-requires
+item_at-requires c = has (goal.at.item_at-requires c).At-loop-i c.loop-i-test.true
 
 pub most_shared-requires : goal.most_shared-requires
 most_shared-requires c = has (goal.at.most_shared-requires c).At-loop-i c.loop-i-test.true
@@ -32,19 +32,19 @@ pub overflow_sub-rows : goal.overflow_sub-rows
 overflow_sub-rows c =
     let here = has (goal.at.overflow_sub-rows c).At-loop-i c.loop-i-test.true in
     let way = way_of c.args.way in
-    omega (arith, c.length_of.ensures.0, c.most_shared.ensures, most_within _ _ here.within way (read_length here way))
+    omega (arith, ap length c.item_at.ensures.units, c.most_shared.ensures, most_within _ _ here.within way)
 
 pub overflow_add-rows : goal.overflow_add-rows
 overflow_add-rows c =
-    omega (arith, c.length_of.ensures.1, c.count_of-i-end.ensures, c.args.words.sound.few)
+    omega (arith, c.item_at.ensures.short, c.count_of-i-end.ensures, c.args.words.sound.few)
 
 pub loop-i-preserved : goal.loop-i-preserved
 loop-i-preserved c =
     let ks = keywords_in c.args.words.list.now in
     let way = way_of c.args.way in
     let more = rows_more ks c.loop-i.i (has (goal.at.loop-i-preserved c).At-loop-i c.loop-i-test.true).within way in (
-      sym (rw (more, ← c.loop-i.invariant.0, ← c.most_shared.ensures, ← c.length_of.ensures.0)),
-      omega (arith, c.length_of.ensures.1),
+      sym (rw (more, ← c.loop-i.invariant.0, ← c.most_shared.ensures, ← c.item_at.ensures.units)),
+      omega (arith, c.item_at.ensures.short),
     )
 
 pub returns : goal.returns

@@ -18,20 +18,20 @@ loop-i-init c = λ j q e. omega (arith, c.count_of.ensures, place_below c.args.w
 has : (c : In-loop-i) → Has c.args.words.list.now (c.loop-i.i - 1)
 has c = has_at c.args.words.shaped (omega (arith, c.count_of.ensures))
 
-pub number_of-requires : goal.number_of-requires
-number_of-requires c = has (goal.at.number_of-requires c).In-loop-i
+pub item_at-requires : goal.item_at-requires
+item_at-requires c = has (goal.at.item_at-requires c).In-loop-i
 
-pub returns-then-number_of-number : goal.returns-then-number_of-number
-returns-then-number_of-number c =
-    let here = has (goal.at.returns-then-number_of-number c).In-loop-i in
-    (here, λ k m e. place_names c.args.words.sound (c.loop-i.i - 1) here.within k m (e ∙ sym c.if-number_of-number.true ∙ c.number_of.ensures.0))
+pub returns-then-from-number : goal.returns-then-from-number
+returns-then-from-number c =
+    let here = has (goal.at.returns-then-from-number c).In-loop-i in
+    (here, λ k m e. place_names c.args.words.sound (c.loop-i.i - 1) here.within k m (e ∙ sym c.if-from-number.true ∙ c.from.ensures ∙ c.item_at.ensures.number))
 
 pub loop-i-preserved : goal.loop-i-preserved
 loop-i-preserved c =
     let ks = keywords_in c.args.words.list.now in
     λ j q e.
     let other : j ≡ c.loop-i.i - 1 → ⊥ =
-    λ same. c.if-number_of-number.false (c.number_of.ensures.0 ∙ ap (λ (i : ℕ). (nth ks i).number) (sym same) ∙ e) in
+    λ same. c.if-from-number.false (c.from.ensures ∙ c.item_at.ensures.number ∙ ap (λ (i : ℕ). (nth ks i).number) (sym same) ∙ e) in
     omega (arith, c.loop-i.invariant j q e)
 
 pub unreachable-requires : goal.unreachable-requires

@@ -12,15 +12,12 @@ use Rattle.words.proofs.Items.{has_at}
 use Rattle.words.proofs.repeated.Goals as goal
 use Rattle.words.proofs.repeated.Goals.{After-eq}
 
-pub units_of-word-requires : goal.units_of-word-requires
-units_of-word-requires c = c.requires
-
 pub loop-j-init : goal.loop-j-init
 unfolding is_keyword
 loop-j-init c = none_passed _ (keywords_in c.args.words.now)
 
-pub units_of-earlier-requires : goal.units_of-earlier-requires
-units_of-earlier-requires c =
+pub item_at-requires-in-loop-j : goal.item_at-requires-in-loop-j
+item_at-requires-in-loop-j c =
     let p = c.requires in
     has_at p.words (omega (arith, p.within))
 
@@ -29,7 +26,8 @@ compared : (c : After-eq)
     → let ks = keywords_in c.args.words.now in
     c.eq.result ≡ same (nth ks c.loop-j.j).word (nth ks c.args.i).word
 compared c =
-    c.eq.ensures ∙ sym (same_listed c.units_of-earlier.result.now c.units_of-word.result.now) ∙ rw (c.units_of-earlier.ensures, c.units_of-word.ensures)
+    c.eq.ensures ∙ sym (same_listed c.item_at-in-loop-j.result.units.now c.item_at.result.units.now)
+    ∙ rw (c.item_at-in-loop-j.ensures.units, c.item_at.ensures.units)
 
 pub returns-then-eq : goal.returns-then-eq
 unfolding is_keyword

@@ -1,9 +1,8 @@
 -- What each turn keeps.
-use Rattle.words.specs.Items.{keywords_in}
-use Rattle.words.specs.Read.{way_of, read_at}
+use Rattle.rules.specs.rows.Rows.{read_by}
+use Rattle.words.specs.Read.{way_of}
 use Rattle.words.proofs.Compared.{Agreed}
 use Rattle.words.proofs.shared.Given as goal
 
 abbrev pub invariant-loop-k : goal.invariant-loop-k
-invariant-loop-k l =
-    Agreed (read_at (way_of l.way) (keywords_in l.words.list.now) l.i) (read_at (way_of l.way) (keywords_in l.words.list.now) l.j) l.k
+invariant-loop-k l = Agreed (read_by (way_of l.way) l.string) (read_by (way_of l.way) l.other) l.k

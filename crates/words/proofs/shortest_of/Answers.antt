@@ -1,6 +1,6 @@
 -- The least length is taken over the keywords passed, the first among them, so at the end over all.
-use mathlib.Core.Path.{◌≡◌, ◌∙◌}
-use lib.ListN.{take}
+use mathlib.Core.Path.{◌≡◌, ◌∙◌, ap}
+use lib.ListN.{length, take}
 use lib.Seq.{take_all}
 use native.Mathlib.Omega.{arith}
 use Rattle.words.specs.Items.{keywords_in}
@@ -8,19 +8,19 @@ use Rattle.words.proofs.Items.{has_at}
 use Rattle.words.proofs.Counted.{least_one, least_more}
 use Rattle.words.proofs.shortest_of.Goals as goal
 
-pub length_of-least-requires : goal.length_of-least-requires
-length_of-least-requires c = let p = c.args.words in has_at p.shaped (omega (arith, p.sound.some))
+pub item_at-requires : goal.item_at-requires
+item_at-requires c = let p = c.args.words in has_at p.shaped (omega (arith, p.sound.some))
 
 pub loop-i-init : goal.loop-i-init
-loop-i-init c = let p = c.args.words in c.length_of-least.ensures.0 ∙ least_one (keywords_in c.args.words.list.now) p.sound.some
+loop-i-init c = let p = c.args.words in ap length c.item_at.ensures.units ∙ least_one (keywords_in c.args.words.list.now) p.sound.some
 
-pub length_of-requires : goal.length_of-requires
-length_of-requires c = has_at c.args.words.shaped (omega (arith, c.count_of-i-end.ensures))
+pub item_at-requires-in-loop-i : goal.item_at-requires-in-loop-i
+item_at-requires-in-loop-i c = has_at c.args.words.shaped (omega (arith, c.count_of-i-end.ensures))
 
 pub loop-i-preserved : goal.loop-i-preserved
 loop-i-preserved c =
     let ks = keywords_in c.args.words.list.now in
-    omega (arith, least_more ks c.loop-i.i (omega (arith, c.count_of-i-end.ensures)) (omega arith), c.length_of.ensures.0)
+    omega (arith, least_more ks c.loop-i.i (omega (arith, c.count_of-i-end.ensures)) (omega arith), ap length c.item_at-in-loop-i.ensures.units)
 
 pub returns : goal.returns
 returns c =

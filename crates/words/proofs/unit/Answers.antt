@@ -1,38 +1,21 @@
--- A unit as it is read stands among the fifteen, counted from the first or from the last.
-use mathlib.Core.Path.{sym}
+-- A unit as it is read is counted from the first or from the last.
+use Prim.Native.Nat.{suc, ◌-◌}
+use mathlib.Core.Path.{◌≡◌, refl, sym, ◌∙◌, ap}
+use lib.ListN.{length, get_or}
 use native.Mathlib.Omega.{arith}
+use Rattle.rules.specs.rows.Rows.{read_by}
+use Rattle.rules.proofs.strings.Lists.{get_or_reverse}
 use Rattle.words.specs.Read.{way_of}
-use Rattle.words.proofs.Items.{word_short, read_forward, read_backward}
 use Rattle.words.proofs.unit.Goals as goal
 
-pub overflow_add-result-in-Forward : goal.overflow_add-result-in-Forward
-overflow_add-result-in-Forward c = omega (arith, word_short c.requires.0)
-
-pub offset_bounds-words-i : goal.offset_bounds-words-i
-offset_bounds-words-i c = omega (arith, word_short c.requires.0)
-
-pub bounds-words-i : goal.bounds-words-i
-bounds-words-i c = omega (arith, word_short c.requires.0)
-
-pub overflow_add-result-in-Backward-2 : goal.overflow_add-result-in-Backward-2
-overflow_add-result-in-Backward-2 c = omega (arith, word_short c.requires.0)
-
-pub offset_bounds-words-i-in-Backward : goal.offset_bounds-words-i-in-Backward
-offset_bounds-words-i-in-Backward c = omega (arith, word_short c.requires.0)
-
-pub bounds-words-i-in-Backward : goal.bounds-words-i-in-Backward
-bounds-words-i-in-Backward c = omega (arith, word_short c.requires.0)
-
 pub returns-in-Forward : goal.returns-in-Forward
-unfolding way_of
-returns-in-Forward c =
-    let a = c.args in
-    let known = c.requires in
-    rw c.in-Forward.is (sym (read_forward known.0 known.1 a.k known.2))
+unfolding way_of read_by
+returns-in-Forward c = rw c.in-Forward.is refl
 
 pub returns-in-Backward : goal.returns-in-Backward
-unfolding way_of
+unfolding way_of read_by
 returns-in-Backward c =
-    let a = c.args in
-    let known = c.requires in
-    rw c.in-Backward.is (sym (read_backward known.0 known.1 a.k known.2))
+    let s = c.args.string.now in
+    let k = c.args.k in
+    let place : length s - 1 - k ≡ length s - suc k = omega arith in
+    rw c.in-Backward.is (ap (λ m. get_or s m 0) place ∙ sym (get_or_reverse s k 0 c.requires))
