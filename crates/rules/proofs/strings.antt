@@ -3,5 +3,4 @@ pub mod Lists
 pub mod Strings
 pub mod Parts
 pub mod Orders
-pub mod Pasted
 pub mod Searched

@@ -18,7 +18,7 @@ use Rattle.rules.proofs.answers.Verdicts.{refuse_no_pass}
 use Rattle.rules.proofs.sets.Sets.{records_next, records_refused, length-keywords}
 use Rattle.words.specs.Items.{item_size, Begins}
 use Rattle.words.proofs.Storing.{begins_none}
-use Rattle.sets.specs.Reading.{RecordRead, Gathered}
+use Rattle.sets.specs.Reading.{RecordRead}
 
 pub record_refused : {s : List ℕ} {i : ℕ} {l : List ℕ} (fault : Refusal)
     → refuse (number_of fault) (place_of fault) ≡ record_verdict i (keywords_from 0 i s) (record_at s i)
@@ -87,6 +87,6 @@ module _ (s : List ℕ) where
 
         pub read_all : {l : List ℕ}
             → Records s (length s / record_size) l
-            → Gathered s (Ok (length s / record_size)) l
+            → (file_verdict s ≡ pass) × (length s / record_size ≡ length (keywords s)) × Begins l (keywords s)
         unfolding keywords
         read_all so = (records ∙ so.passed, sym (length-keywords s), so.begins)

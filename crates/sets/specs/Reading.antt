@@ -7,19 +7,19 @@ use Rattle.rules.specs.sets.Sets.{keywords, keywords_from}
 use Rattle.rules.specs.answers.Refusals.{pass, refuse, record_verdict, record_verdicts, file_verdict}
 use Rattle.rules.specs.answers.Answers.{number_of, place_of}
 use Rattle.rules.specs.answers.Promises.{verdict_of}
-use Rattle.rules.specs.Beside.{record_at}
+use Rattle.rules.specs.Beside.{Sound, record_at}
 use Rattle.words.specs.Items.{item_size, keywords_in, Begins}
 use Rattle.words.specs.declared.Keywords.{Keywords}
 
--- record i of the set s is whole and states the length n, which a keyword may have
-pub record Stated (s : List ℕ) (i n : ℕ) : Type 0 where
-  pub whole : record_size * i + record_size ≤ length s
-  pub stated : get_or s (record_size * i) 0 ≡ n
+-- the record r is whole and states the length n, which a keyword may have
+pub record Stated (r : List ℕ) (n : ℕ) : Type 0 where
+  pub whole : length r ≡ record_size
+  pub stated : get_or r 0 0 ≡ n
   pub short : n ≤ longest_word
 
--- some byte of record i behind the n of its keyword is not zero
-unfoldable pub padding_fault : List ℕ → ℕ → ℕ → Bool
-padding_fault s i n = any (λ b. not (eqb b 0)) (take (longest_word - n) (drop (1 + n) (record_at s i)))
+-- some byte of the record r behind the n of its keyword is not zero
+unfoldable pub padding_fault : List ℕ → ℕ → Bool
+padding_fault r n = any (λ b. not (eqb b 0)) (take (longest_word - n) (drop (1 + n) r))
 
 -- before record i is read: it is whole, those before it passed, and their keywords stand at the front of the list
 pub record Reading (s : List ℕ) (i : ℕ) (l : List ℕ) : Type 0 where
@@ -34,9 +34,10 @@ pub record RecordRead (s : List ℕ) (i : ℕ) (r : Result (Unit {0}) Refusal) (
   pub told : verdict_of r ≡ record_verdict i (keywords_from 0 i s) (record_at s i)
   pub begins : record_verdict i (keywords_from 0 i s) (record_at s i) ≡ pass → Begins l' (keywords_from 0 (i + 1) s)
 
--- all records: the tests 1 to 6, the number of keywords where they pass, and the keywords at the front of the list
+-- all records: the tests 1 to 6; where they pass the number of keywords, which are sound and stand at the front of the
+-- list
 abbrev pub Gathered : List ℕ → Result ℕ Refusal → List ℕ → Type 0
-Gathered s (Ok n) l' = (file_verdict s ≡ pass) × (n ≡ length (keywords s)) × Begins l' (keywords s)
+Gathered s (Ok n) l' = (file_verdict s ≡ pass) × (n ≡ length (keywords s)) × Begins l' (keywords s) × Sound (keywords s)
 Gathered s (Err fault) l' = file_verdict s ≡ refuse (number_of fault) (place_of fault)
 
 -- the set: its keywords where the tests 1 to 6 pass, and else the refusal

@@ -2,9 +2,9 @@
 // size and the places in it.
 #![tactic(auto)]
 
-ghost use Rattle.std.specs.Prelude.{◌≡◌, ◌+◌, ◌*◌, ◌<◌, ◌≤◌, length, get_or};
+ghost use Rattle.std.specs.Prelude.{◌≡◌, ◌*◌, ◌<◌, ◌≤◌, length};
 ghost use Rattle.rules.specs.sets.Limits.{record_size, most_keywords, longest_word};
-ghost use Rattle.rules.specs.Beside.{keyword_at};
+ghost use Rattle.rules.specs.sets.Sets.{keyword_of};
 ghost use Rattle.words.specs.Items.{item_size, word_of};
 ghost use Rattle.sets.specs.Reading.{Stated, padding_fault, Reading, RecordRead, Gathered, Read};
 
@@ -14,47 +14,36 @@ use words::{ITEM, Keywords, Word, put, repeated};
 // The bytes of a record.
 pub const RECORD: usize = 20;
 
-// The length that record i states.
-fn stated(set: &[u8], i: usize) -> usize
-    requires { record_size * i + record_size ≤ length set.now }
-    ensures { (result ≡ get_or set.now (record_size * i) 0) × (result < 256) }
+// Whether some byte of a record behind the n of its keyword is not zero.
+fn unpadded(bytes: &[u8], n: usize) -> bool
+    requires { Stated bytes.now n }
+    ensures { result ≡ padding_fault bytes.now n }
 {
-    usize::from(set[RECORD * i])
+    bytes[1 + n..16].iter().any(|b| *b != 0)
 }
 
-// Whether some byte of record i behind the n of its keyword is not zero.
-fn unpadded(set: &[u8], i: usize, n: usize) -> bool
-    requires { Stated set.now i n }
-    ensures { result ≡ padding_fault set.now i n }
+// The energy that a record states, low byte first.
+fn energy(bytes: &[u8]) -> u32
+    requires { length bytes.now ≡ record_size }
+    ensures { result ≡ (keyword_of 0 bytes.now).energy }
 {
-    let from = RECORD * i + 1 + n;
-    let to = RECORD * i + 16;
-    set[from..to].iter().any(|b| *b != 0)
+    u32::from_le_bytes([bytes[16], bytes[17], bytes[18], bytes[19]])
 }
 
-// The energy that record i states, low byte first.
-fn energy(set: &[u8], i: usize) -> u32
-    requires { record_size * i + record_size ≤ length set.now }
-    ensures { result ≡ (keyword_at set.now i).energy }
-{
-    let at = RECORD * i + 16;
-    u32::from_le_bytes([set[at], set[at + 1], set[at + 2], set[at + 3]])
-}
-
-// Keyword i, whose length is n.
-fn word(set: &[u8], i: usize, n: usize) -> Word
-    requires { Stated set.now i n × (i < most_keywords) }
-    ensures { (word_of result ≡ keyword_at set.now i) × (result.len ≤ longest_word) }
+// The keyword of a record that states the length n, with its number.
+fn word(bytes: &[u8], number: usize, n: usize) -> Word
+    requires { Stated bytes.now n × (number < most_keywords) }
+    ensures { (word_of result ≡ keyword_of number bytes.now) × (result.len ≤ longest_word) }
 {
     let mut units = [0u16; LONGEST];
     for k in 0..n {
-        units[k] = u16::from(set[RECORD * i + 1 + k]);
+        units[k] = u16::from(bytes[1 + k]);
     }
     Word {
-        number: i as u16,
+        number: number as u16,
         len: n,
         units,
-        energy: energy(set, i),
+        energy: energy(bytes),
     }
 }
 
@@ -64,17 +53,18 @@ fn read_record(set: &[u8], i: usize, list: &mut [u16]) -> Result<(), Refusal>
     ensures { RecordRead set.now i result list.new }
 {
     let record = i as u16;
-    let n = stated(set, i);
+    let bytes = &set[RECORD * i..RECORD * i + RECORD];
+    let n = usize::from(bytes[0]);
     if n == 0 {
         return Err(Refusal::Length { record });
     }
     if LONGEST < n {
         return Err(Refusal::Length { record });
     }
-    if unpadded(set, i, n) {
+    if unpadded(bytes, n) {
         return Err(Refusal::Padding { record });
     }
-    put(list, i, word(set, i, n));
+    put(list, i, word(bytes, i, n));
     let end = ITEM * (i + 1);
     if repeated(&list[..end], i) {
         return Err(Refusal::Repeated { record });
@@ -82,8 +72,8 @@ fn read_record(set: &[u8], i: usize, list: &mut [u16]) -> Result<(), Refusal>
     Ok(())
 }
 
-// The tests 1 to 6 of a set, and its keywords at the front of the list; how many there are.
-fn gather(set: &[u8], list: &mut [u16]) -> Result<usize, Refusal>
+// The tests 1 to 6 of a set, and its keywords at the front of a list with room for 64; how many there are.
+pub fn gather(set: &[u8], list: &mut [u16]) -> Result<usize, Refusal>
     requires { item_size * most_keywords ≤ length list.old }
     ensures { Gathered set.now result list.new }
 {
@@ -104,7 +94,7 @@ fn gather(set: &[u8], list: &mut [u16]) -> Result<usize, Refusal>
     Ok(count)
 }
 
-// The tests 1 to 6 of a set, and its keywords, which take the front of a list with room for 64.
+// The tests 1 to 6 of a set, and its keywords as a value, lent from a list with room for 64.
 pub fn read<'a>(set: &[u8], list: &'a mut [u16]) -> Result<Keywords<'a>, Refusal>
     requires { item_size * most_keywords ≤ length list.old }
     ensures { Read set.now result }

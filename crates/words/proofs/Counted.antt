@@ -13,7 +13,7 @@ use Rattle.rules.specs.rows.Rows as R
 use Rattle.rules.proofs.rows.Count.{most_common_le, most_common-append, rows_of-count}
 use Rattle.rules.proofs.skips.Least.{shortest_more}
 use Rattle.words.specs.Read.{read_at, earlier}
-use Rattle.words.proofs.Items.{length-read}
+use Rattle.rules.proofs.rows.Rows.{read_by-length}
 
 -- none of the keywords, and the first
 pub most_none : (way : R.Way) (ks : List Keyword) (w : List ℕ) → 0 ≡ most_common (earlier way ks 0) w
@@ -52,4 +52,4 @@ module _ (ks : List Keyword) (i : ℕ) (h : i < length ks) where
   -- earlier ones begin with no more than all of it
   pub most_within : (way : R.Way) → most_common (earlier way ks i) (read_at way ks i) ≤ length (nth ks i).word
   unfolding read_at
-  most_within way = omega (arith, most_common_le (earlier way ks i) (read_at way ks i), length-read way (nth ks i).word)
+  most_within way = omega (arith, most_common_le (earlier way ks i) (read_at way ks i), read_by-length way (nth ks i).word)

@@ -1,17 +1,15 @@
 -- Each number of a keyword stands at its place in the list, so what the list says of a keyword is read off those
 -- places.
-use Prim.Native.Nat.{ℕ, zero, suc, ◌+◌, ◌*◌, ◌/◌, ◌≤◌, ◌<◌}
+use Prim.Native.Nat.{ℕ, zero, suc, ◌+◌, ◌*◌, ◌/◌, ◌<◌}
 use native.Mathlib.Omega.{arith}
 use mathlib.Core.Path.{◌≡◌, refl, ◌∙◌, ap}
 use mathlib.Core.List.{List, [], ◌∷◌}
-use lib.ListN.{length, take, drop, get_or, length-append, length-take, length-drop, length-reverse, get_or-append}
+use lib.ListN.{length, take, drop, get_or, length-append, get_or-append}
 use lib.Seq.{get_or_at}
 use lib.Dec.{ltb}
 use borrow.Author.Tests.{ltb-true, ltb-false}
-use Rattle.rules.specs.sets.Limits.{longest_word}
 use Rattle.rules.specs.sets.Sets.{Keyword}
 use Rattle.rules.specs.Beside.{no_keyword, nth}
-use Rattle.rules.specs.rows.Rows as R
 use Rattle.rules.proofs.strings.Strings.{either}
 use Rattle.words.specs.Items.{item_size, item_at, items, keywords_in, Words, Has}
 
@@ -47,9 +45,6 @@ has_at {l} words h = record { words = words; within = h; room = omega (arith, le
 
 -- the keyword at a place: its numbers in the list
 module _ {l : List ℕ} {i : ℕ} (has : Has l i) where
-  pub has_short : get_or l (item_size * i + 1) 0 ≤ longest_word
-  has_short = has.words.short i has.within
-
   pub number_at : (nth (keywords_in l) i).number ≡ get_or l (item_size * i) 0
   unfolding item_at
   number_at = ap (λ (k : Keyword). k.number) (nth_is l i has.within)
@@ -61,24 +56,3 @@ module _ {l : List ℕ} {i : ℕ} (has : Has l i) where
   pub word_is : (nth (keywords_in l) i).word ≡ take (get_or l (item_size * i + 1) 0) (drop (item_size * i + 2) l)
   unfolding item_at
   word_is = ap (λ (k : Keyword). k.word) (nth_is l i has.within)
-
-  pub word-length : length (nth (keywords_in l) i).word ≡ get_or l (item_size * i + 1) 0
-  word-length =
-      let n : ℕ = get_or l (item_size * i + 1) 0 in
-      omega (
-        arith,
-        ap length word_is,
-        has_short,
-        has.room,
-        length-take n (drop (item_size * i + 2) l),
-        length-drop (item_size * i + 2) l,
-      )
-
-  pub word_short : length (nth (keywords_in l) i).word ≤ longest_word
-  word_short = omega (arith, word-length, has_short)
-
--- a string as it is read has its length
-pub length-read : (way : R.Way) (s : List ℕ) → length (R.read_by way s) ≡ length s
-unfolding R.read_by
-length-read R.forward s = refl
-length-read R.backward s = length-reverse s

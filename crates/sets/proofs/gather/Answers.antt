@@ -7,6 +7,7 @@ use lib.ListN.{length}
 use native.Mathlib.Omega.{arith}
 use Rattle.rules.specs.sets.Limits.{record_size}
 use Rattle.std.proofs.lemmas.Result.{err_from_is_err_and}
+use Rattle.rules.proofs.sets.Bytes.{bytes_sound}
 use Rattle.sets.proofs.Files.{records_none, records_more, read_empty, read_size, read_many, read_fault, read_all}
 use Rattle.sets.proofs.gather.Goals as goal
 
@@ -42,4 +43,5 @@ pub returns : goal.returns
 returns c =
     let s = c.args.set.now in
     let all : c.loop-i.i ≡ length s / record_size = omega arith in
-    read_all s c.if-size-eq0.false c.if-size-ne0.false c.if-count-gt-KEYWORDS.false (rw all at c.loop-i.invariant)
+    let (passed, counted, begins) = read_all s c.if-size-eq0.false c.if-size-ne0.false c.if-count-gt-KEYWORDS.false (rw all at c.loop-i.invariant) in
+    (passed, counted, begins, bytes_sound s (λ i. (c.type_inv.set i).fits) passed)

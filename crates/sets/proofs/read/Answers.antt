@@ -6,7 +6,6 @@ use lib.Seq.{length-take-le}
 use Rattle.rules.specs.sets.Sets.{keywords}
 use Rattle.words.specs.Items.{item_size, Words, keywords_in}
 use Rattle.words.proofs.Storing.{begins_cut}
-use Rattle.rules.proofs.sets.Bytes.{bytes_sound}
 use Rattle.sets.proofs.read.Goals as goal
 use Rattle.sets.proofs.read.Goals.{In_ok-count}
 
@@ -14,17 +13,17 @@ use Rattle.sets.proofs.read.Goals.{In_ok-count}
 front : (c : In_ok-count)
     → let l = take (item_size * c.in_ok-count.count) c.gather.new.list in
     Words l × (keywords_in l ≡ keywords c.args.set.now)
-front c = let (passed, count, begins) = c.in_ok-count.ensures in begins_cut c.in_ok-count.count count begins
+front c = let (passed, count, begins, sound) = c.in_ok-count.ensures in begins_cut c.in_ok-count.count count begins
 
 pub slice_bounds-result-end : goal.slice_bounds-result-end
-slice_bounds-result-end c = let (passed, count, begins) = c.in_ok-count.ensures in sym (length-take-le _ _ (rw count begins.room))
+slice_bounds-result-end c = let (passed, count, begins, sound) = c.in_ok-count.ensures in sym (length-take-le _ _ (rw count begins.room))
 
 pub invariant_of-result : goal.invariant_of-result
 invariant_of-result c =
     let (words, holds) = front (goal.at.invariant_of-result c).In_ok-count in
     record {
       shaped = words;
-      sound = rw holds (bytes_sound c.args.set.now (λ i. (c.type_inv.set i).fits) (c.in_ok-count.ensures).0);
+      sound = rw holds (c.in_ok-count.ensures).3;
     }
 
 pub returns : goal.returns

@@ -1,9 +1,8 @@
--- The padding is a part of the set, and `any` asks each of its bytes whether it is another than zero.
+-- The padding is a part of the record, and `any` asks each of its bytes whether it is another than zero.
 use mathlib.Core.Path.{sym, ◌∙◌}
-use Prim.Native.Nat.{◌+◌, ◌-◌, ◌*◌}
+use Prim.Native.Nat.{◌+◌, ◌-◌}
 use mathlib.Core.Bool.{not}
 use lib.ListN.{take, drop}
-use Rattle.rules.specs.sets.Limits.{record_size}
 use lib.Dec.{eqb}
 use Rattle.std.proofs.Common.{rules, tests}
 use Rattle.std.proofs.lemmas.Iterator.{YieldsList-from_slice}
@@ -13,5 +12,7 @@ use Rattle.sets.proofs.unpadded.Goals as goal
 
 pub returns : goal.returns
 returns c =
-    any_from_yields_List (λ b. not (eqb b 0)) _ _ _ c.any.ensures.ran (YieldsList-from_slice (take (record_size * c.args.i + 16 - (record_size * c.args.i + 1 + c.args.n)) (drop (record_size * c.args.i + 1 + c.args.n) c.args.set.now)) cc) (λ x b q k. search (rules, tests))
-    ∙ sym (padding_listed _ _ _ c.requires)
+    any_from_yields_List (λ b. not (eqb b 0)) _ _ _ c.any.ensures.ran
+    (YieldsList-from_slice (take (16 - (1 + c.args.n)) (drop (1 + c.args.n) c.args.bytes.now)) cc)
+    (λ x b q k. search (rules, tests))
+    ∙ sym (padding_listed _ _ c.requires)
