@@ -3,13 +3,14 @@
 use Prim.Native.Nat.{ℕ, zero, suc, ◌+◌, ◌*◌, ◌≤◌, ◌<◌}
 use native.Mathlib.Omega.{arith}
 use mathlib.Core.Path.{◌≡◌, refl, sym, ◌∙◌, ap}
-use mathlib.Core.Bool.{false, cond}
+use mathlib.Core.Bool.{false}
 use mathlib.Core.List.Memᴰ
 use mathlib.Core.List.{List, [], ◌∷◌, ◌++◌, Memᴰ}
 use lib.ListN.{length, get_or, take, drop, set, length-append, length-set, get_or-replicate, get_or-append}
 use lib.Seq.{sets, sets-eq, length-sets, length-take-le, get_or-append-add, get_or-append_seam, get_or-set_same, get_or-set_other, drop-set-lt}
 use lib.Dec.{eqb, ltb}
-use borrow.Author.Tests.{eqb-true, eqb-false, eq-eqb, ne_eqb, ltb-true, ltb-false}
+use borrow.Author.Tests.{eqb-true, eqb-false, ltb-true, ltb-false}
+use Rattle.std.specs.Prelude.{Option, Some, None, IfSome}
 use Rattle.rules.specs.sets.Limits.{row_cells}
 use Rattle.rules.specs.strings.Strings.{same, any}
 use Rattle.rules.specs.sets.Sets.{Keyword}
@@ -19,7 +20,7 @@ use Rattle.rules.proofs.strings.Strings.{either}
 use Rattle.rules.proofs.rows.Rows.{Stands, old_place, new_place, at_snoc, row_at, rowed_more}
 use Rattle.rules.proofs.rows.Children.{places, place_from-head, children_none, new_child, new_sibling, last_byte, last_byte_snoc, last-only, child_linked, child-kept, sibling_linked, sibling-kept}
 use Rattle.rows.specs.declared.tree.Asked.{Asked}
-use Rattle.rows.specs.Tree.{Column, Tree, Held, Answered, Beyond, byte_of, children_of, siblings_of, last_from, appended}
+use Rattle.rows.specs.Tree.{Column, Tree, Held, Answered, Beyond, byte_of, children_of, siblings_of, last_from, link, link_at, appended}
 use Rattle.rows.proofs.Walk.{LastChild, childless, youngest, byte_of_pos, siblings_of_pos, last_is, last_within, answered_none}
 
 -- a run of stores: what stands before it and behind it stays, and within it is what was stored
@@ -40,10 +41,7 @@ sets_in l i vs j room q =
     ∙ ap (λ (x : ℕ). get_or (take i l ++ vs) (x + j) 0) (sym before)
     ∙ get_or-append-add (take i l) vs j 0
 
--- where the link to a new row stands, and the new row's own numbers
-unfoldable link_at : ℕ → ℕ → ℕ
-link_at parent last = cond (eqb last 0) (row_cells * parent + 1) (row_cells * last + 2)
-
+-- the new row's own numbers
 abbrev new_row : ℕ → List ℕ
 new_row c = c ∷ 0 ∷ 0 ∷ 0 ∷ 0 ∷ 0 ∷ []
 
@@ -51,33 +49,37 @@ new_row_links : (c j : ℕ) → 1 ≤ j → j < row_cells → get_or (new_row c)
 new_row_links c zero low high = absurd (omega arith)
 new_row_links c (suc j) low high = get_or-replicate 5 j 0 0 (omega arith)
 
-link_at_child : (parent last : ℕ) → last ≡ 0 → link_at parent last ≡ row_cells * parent + 1
+-- where the link stands
+link_at_child : (parent : ℕ) {last : Option ℕ} → last ≡ None → link_at parent last ≡ row_cells * parent + 1
 unfolding link_at
-link_at_child parent last e = rw (eq-eqb last 0 e)
+link_at_child parent e = rw e
 
-link_at_sibling : (parent last : ℕ) → (last ≡ 0 → ⊥) → link_at parent last ≡ row_cells * last + 2
+link_at_sibling : (parent : ℕ) {last : Option ℕ} {i : ℕ} → last ≡ Some i → link_at parent last ≡ row_cells * i + 2
 unfolding link_at
-link_at_sibling parent last f = rw (ne_eqb last 0 f)
+link_at_sibling parent e = rw e
 
 -- a number of another kind is no link
-link_at_other : (parent last i j : ℕ) → j < row_cells → (j ≡ 1 → ⊥) → (j ≡ 2 → ⊥) → row_cells * i + j ≡ link_at parent last → ⊥
-link_at_other parent last i j q one two e =
-    either (eqb last 0)
-    (λ t. one (omega (arith, link_at_child parent last (eqb-true last 0 t))))
-    (λ f. two (omega (arith, link_at_sibling parent last (eqb-false last 0 f))))
+link_at_other : (parent : ℕ) (last : Option ℕ) (i j : ℕ)
+    → j < row_cells
+    → (j ≡ 1 → ⊥)
+    → (j ≡ 2 → ⊥)
+    → row_cells * i + j ≡ link_at parent last
+    → ⊥
+unfolding link_at
+link_at_other parent None i j q one two e = one (omega arith)
+link_at_other parent (Some last) i j q one two e = two (omega arith)
 
-link_at_within : (n parent last : ℕ) → parent < n → last < n → link_at parent last < row_cells * n
-link_at_within n parent last p q =
-    either (eqb last 0)
-    (λ t. omega (arith, link_at_child parent last (eqb-true last 0 t)))
-    (λ f. omega (arith, link_at_sibling parent last (eqb-false last 0 f)))
+link_at_within : (n parent : ℕ) (last : Option ℕ) → parent < n → IfSome last (λ i. i < n) → link_at parent last < row_cells * n
+unfolding link_at
+link_at_within n parent None p q = omega arith
+link_at_within n parent (Some last) p q = omega (arith, q)
 
 -- The numbers of a workspace with one row more: those of the rows before it but the link, the link, those of the new
 -- row.
-module _ (ws : List ℕ) (n parent last c : ℕ) where
+module _ (ws : List ℕ) (n parent : ℕ) (last : Option ℕ) (c : ℕ) where
   appended_sets : appended ws n parent last c ≡ sets (set ws (link_at parent last) n) (row_cells * n) (new_row c)
-  unfolding appended link_at
-  appended_sets = either (eqb last 0) (λ t. rw t) (λ f. rw f)
+  unfolding appended
+  appended_sets = refl
 
   pub appended-length : length (appended ws n parent last c) ≡ length ws
   appended-length =
@@ -95,7 +97,7 @@ module _ (ws : List ℕ) (n parent last c : ℕ) where
         rw appended_sets
         (sets_in (set ws (link_at parent last) n) (row_cells * n) (new_row c) j (omega (arith, length-set ws (link_at parent last) n)) q)
 
-    module _ (low : parent < n) (low' : last < n) where
+    module _ (low : parent < n) (low' : IfSome last (λ i. i < n)) where
       cell_linked : get_or (appended ws n parent last c) (link_at parent last) 0 ≡ n
       cell_linked =
           let q : link_at parent last < row_cells * n = link_at_within n parent last low low' in
@@ -132,12 +134,12 @@ abbrev pub grown : List (List ℕ) → List ℕ → ℕ → List (List ℕ)
 grown R s c = R ++ ((s ++ (c ∷ [])) ∷ [])
 
 -- What is known before a row is appended: its parent is a row and it is none, and `last` is the parent's last child.
-pub record Growing (R : List (List ℕ)) (parent : ℕ) (s : List ℕ) (c last : ℕ) (ws : List ℕ) : Type 0 where
+pub record Growing (R : List (List ℕ)) (parent : ℕ) (s : List ℕ) (c : ℕ) (last : Option ℕ) (ws : List ℕ) : Type 0 where
   pub tree : Tree R ws
   pub within : parent < length R
   pub reads : get_or R parent [] ≡ s
   pub new : any (same (s ++ (c ∷ []))) R ≡ false
-  pub latest : last ≡ last_from 0 0 (child_of s) R
+  pub latest : last ≡ link (last_from 0 0 (child_of s) R)
   pub room : row_cells * (length R + 1) ≤ length ws
 
 -- so it is where a question found no child
@@ -145,7 +147,7 @@ pub growing : {R : List (List ℕ)} {parent c : ℕ} {ws : List ℕ} {r : Asked}
     → Tree R ws
     → parent < length R
     → Answered R (get_or R parent []) c r
-    → r.child ≡ 0
+    → r.child ≡ None
     → row_cells * (length R + 1) ≤ length ws
     → Growing R parent (get_or R parent []) c r.last ws
 growing tree within answered None-found room =
@@ -168,12 +170,12 @@ siblings_of_old {R} rowed s c (suc i) q other =
     rw (get_or-append R ((s ++ (c ∷ [])) ∷ []) [] (suc i) q)
     (sibling-kept rowed s c (suc i) (omega arith) q (other (omega arith)))
 
-module _ {R : List (List ℕ)} {parent : ℕ} {s : List ℕ} {c last : ℕ} {ws : List ℕ} (g : Growing R parent s c last ws) where
-  pub growing_last : last < length R
-  growing_last = rw g.latest (last_within g.tree.rowed s)
-
+module _ {R : List (List ℕ)} {parent : ℕ} {s : List ℕ} {c : ℕ} {last : Option ℕ} {ws : List ℕ} (g : Growing R parent s c last ws) where
   youngest_is : LastChild R s last
   youngest_is = rw g.latest (last_is g.tree.rowed s)
+
+  pub growing_last : IfSome last (λ i. i < length R)
+  growing_last = last_within g.tree.rowed s youngest_is
 
   -- the numbers of an old row: all but the link stay
   kept : (i j : ℕ)
@@ -183,8 +185,8 @@ module _ {R : List (List ℕ)} {parent : ℕ} {s : List ℕ} {c last : ℕ} {ws 
       → get_or (appended ws (length R) parent last c) (row_cells * i + j) 0 ≡ get_or ws (row_cells * i + j) 0
   kept i j q small other = cell-kept ws (length R) parent last c (row_cells * i + j) (omega arith) other
 
-  link : (i j : ℕ) → row_cells * i + j ≡ link_at parent last → get_or (appended ws (length R) parent last c) (row_cells * i + j) 0 ≡ length R
-  link i j here = rw here (cell_linked ws (length R) parent last c g.room g.within growing_last)
+  linked : (i j : ℕ) → row_cells * i + j ≡ link_at parent last → get_or (appended ws (length R) parent last c) (row_cells * i + j) 0 ≡ length R
+  linked i j here = rw here (cell_linked ws (length R) parent last c g.room g.within growing_last)
 
   added : (i j : ℕ) → i ≡ length R → j < row_cells → get_or (appended ws (length R) parent last c) (row_cells * i + j) 0 ≡ get_or (new_row c) j 0
   added i j at small = rw at (cell-new ws (length R) parent last c g.room j small)
@@ -224,16 +226,16 @@ module _ {R : List (List ℕ)} {parent : ℕ} {s : List ℕ} {c last : ℕ} {ws 
           (λ t.
           let here : i ≡ parent = eqb-true i parent t in
           let reads : get_or (grown R s c) i [] ≡ s = e ∙ ap (λ (x : ℕ). get_or R x []) here ∙ g.reads in
-          link i 1 (omega (arith, link_at_child parent last z))
+          linked i 1 (omega (arith, link_at_child parent z))
           ∙ sym
           (ap (λ (r : List ℕ). place_from 0 (child_of r) (grown R s c)) reads
           ∙ child_linked g.tree.rowed s c (place_from-head 0 (child_of s) R ∙ ap (λ (l : List ℕ). get_or l 0 0) empty)))
           (λ f.
           let other : i ≡ parent → ⊥ = eqb-false i parent f in
-          unlinked a e (λ x. other (omega (arith, link_at_child parent last z)))
+          unlinked a e (λ x. other (omega (arith, link_at_child parent z)))
           (λ r x. other (g.tree.rowed.distinct i parent a g.within (r ∙ sym g.reads))))
-      go (old_place a e) (youngest pos m end) =
-          unlinked a e (λ x. omega (arith, link_at_sibling parent last (λ z. omega arith)))
+      go (old_place a e) (youngest k is pos m end) =
+          unlinked a e (λ x. omega (arith, link_at_sibling parent is))
           (λ r x.
           let empty : places 0 (child_of s) R ≡ [] = children_none g.tree.rowed s (rw r at x) in
           Memᴰ.not-nil (rw empty at m))
@@ -256,18 +258,18 @@ module _ {R : List (List ℕ)} {parent : ℕ} {s : List ℕ} {c last : ℕ} {ws 
           → LastChild R s last
           → get_or (appended ws (length R) parent last c) (row_cells * i + 2) 0 ≡ siblings_of (grown R s c) i
       go (old_place a e) (childless z empty) =
-          unlinked a (λ x. omega (arith, link_at_child parent last z)) (λ pos m end. Memᴰ.not-nil (rw empty at m))
-      go (old_place a e) (youngest pos m end) =
-          either (eqb i last)
+          unlinked a (λ x. omega (arith, link_at_child parent z)) (λ pos m end. Memᴰ.not-nil (rw empty at m))
+      go (old_place a e) (youngest k is pos m end) =
+          either (eqb i k)
           (λ t.
-          let here : i ≡ last = eqb-true i last t in
-          let reads : get_or (grown R s c) i [] ≡ get_or R last [] = e ∙ ap (λ (x : ℕ). get_or R x []) here in
-          link i 2 (omega (arith, link_at_sibling parent last (λ z. omega arith)))
-          ∙ sym (siblings_of_pos (grown R s c) i (omega arith) ∙ (rw (reads, here) (sibling_linked g.tree.rowed s c last m end))))
+          let here : i ≡ k = eqb-true i k t in
+          let reads : get_or (grown R s c) i [] ≡ get_or R k [] = e ∙ ap (λ (x : ℕ). get_or R x []) here in
+          linked i 2 (omega (arith, link_at_sibling parent is))
+          ∙ sym (siblings_of_pos (grown R s c) i (omega arith) ∙ (rw (reads, here) (sibling_linked g.tree.rowed s c k m end))))
           (λ f.
-          let other : i ≡ last → ⊥ = eqb-false i last f in
-          unlinked a (λ x. other (omega (arith, link_at_sibling parent last (λ z. omega arith))))
-          (λ pos' m' end'. other (last-only R s i last m' m end' end)))
+          let other : i ≡ k → ⊥ = eqb-false i k f in
+          unlinked a (λ x. other (omega (arith, link_at_sibling parent is)))
+          (λ pos' m' end'. other (last-only R s i k m' m end' end)))
       go (new_place a e) born =
           added i 2 a (omega arith)
           ∙ sym
@@ -298,7 +300,7 @@ module _ {R : List (List ℕ)} {parent : ℕ} {s : List ℕ} {c last : ℕ} {ws 
       rw (length-append R ((s ++ (c ∷ [])) ∷ [])) (appended_column ws (length R) parent last c g.room j f low high held new)
 
 -- the keywords and the empty columns of a workspace with a row more that is no keyword
-pub held-appended : {way : Way} {ks : List Keyword} {R : List (List ℕ)} {parent : ℕ} {s : List ℕ} {c last : ℕ} {ws : List ℕ}
+pub held-appended : {way : Way} {ks : List Keyword} {R : List (List ℕ)} {parent : ℕ} {s : List ℕ} {c : ℕ} {last : Option ℕ} {ws : List ℕ}
     → Held way ks R ws
     → Growing R parent s c last ws
     → key_of way ks (s ++ (c ∷ [])) ≡ 0

@@ -3,8 +3,8 @@ use Prim.Native.Nat.{ℕ}
 use mathlib.Core.Path.{◌≡◌, refl, ◌∙◌, ap}
 use mathlib.Core.List.{List}
 use lib.ListN.{length}
+use Rattle.std.specs.Prelude.{Ok, Err}
 use Rattle.rules.specs.declared.Refusal.{Refusal}
-use Rattle.rules.specs.declared.Counted.{Counted}
 use Rattle.rules.specs.sets.Sets.{Keyword}
 use Rattle.rules.specs.rows.Rows.{Way, rows_of, cells}
 use Rattle.rules.specs.scans.Hits.{over}
@@ -18,7 +18,7 @@ use Rattle.rows.specs.Beginning.{Begun}
 module _ {way : Way} {ks : List Keyword} {n : ℕ} {ws : List ℕ} where
   pub begin_refused : (fault : Refusal)
       → entry_verdict way ks n (length ws) ≡ refuse (number_of fault) (place_of fault)
-      → Begun way ks n ws (Counted.Refused fault) ws
+      → Begun way ks n ws (Err fault) ws
   unfolding kept on_pass
   begin_refused fault said = record { told = answer_refused _ said; rows = rw said }
 
@@ -26,19 +26,19 @@ module _ {way : Way} {ks : List Keyword} {n : ℕ} {ws : List ℕ} where
       → entry_verdict way ks n (length ws) ≡ pass
       → rows ≡ length (rows_of way ks)
       → ws' ≡ over (cells way ks) ws
-      → Begun way ks n ws (Counted.Number rows) ws'
+      → Begun way ks n ws (Ok rows) ws'
   unfolding kept on_pass with_rows
   begin_laid fine counted laid = record { told = ap told_count counted ∙ answer_passed _ fine; rows = rw fine laid }
 
   module _ {ws' : List ℕ} where
-    pub begun_refused : (fault : Refusal) → Begun way ks n ws (Counted.Refused fault) ws'
+    pub begun_refused : (fault : Refusal) → Begun way ks n ws (Err fault) ws'
         → (entry_verdict way ks n (length ws) ≡ refuse (number_of fault) (place_of fault)) × (ws' ≡ ws)
     unfolding kept on_pass
     begun_refused fault so =
         let said = counted_refused fault (told_count (length (rows_of way ks))) (entry_verdict way ks n (length ws)) refl so.told in
         (said, rw said at so.rows)
 
-    pub begun_laid : {rows : ℕ} → Begun way ks n ws (Counted.Number rows) ws'
+    pub begun_laid : {rows : ℕ} → Begun way ks n ws (Ok rows) ws'
         → (entry_verdict way ks n (length ws) ≡ pass) × (rows ≡ length (rows_of way ks)) × (ws' ≡ over (cells way ks) ws)
     unfolding kept on_pass with_rows
     begun_laid so =

@@ -6,20 +6,24 @@ use mathlib.Core.Path.{◌≡◌, sym, ◌∙◌, ap, fun_ext}
 use mathlib.Core.Bool.{Bool, true, false, cond}
 use mathlib.Core.List.{List, [], ◌∷◌, ◌++◌}
 use lib.ListN.{length, get_or, set, length-append}
+use Rattle.std.specs.Prelude.{Some, None}
 use Rattle.rules.specs.sets.Limits.{row_cells}
 use Rattle.rules.specs.strings.Strings.{same, any, longest_behind}
 use Rattle.rules.specs.sets.Sets.{Keyword, is_keyword}
 use Rattle.rules.specs.rows.Rows.{forward, starts, read_by, rows_of, row_of, key_of, failure_cell, dictionary_cell, is_row}
 use Rattle.rules.specs.Beside.{Sound, Rowed}
 use Rattle.rules.proofs.strings.Strings.{either, passes}
-use Rattle.rules.proofs.rows.Rows.{row_of_is, row_of-nil, row_of_none}
+use Rattle.rules.proofs.rows.Rows.{row_of_is, row_of-nil, row_of_none, row_of_pos}
 use Rattle.rules.proofs.rows.PrefixRows.{filled_rows, row_short}
 use Rattle.rules.proofs.rows.Children.{row_filled}
 use Rattle.rules.proofs.rows.Keys.{no_keyword_no_key, no_key_no_keyword}
 use Rattle.rules.proofs.scans.Dictionary.{dictionary_failure}
 use Rattle.rules.proofs.scans.State.{longest-length, behind_one, behind_state, behind-length, behind_passes}
 use Rattle.rows.specs.declared.failures.Advanced.{Advanced}
+use Rattle.rows.specs.declared.tree.Asked.{Asked}
+use Rattle.rows.specs.Tree.{Answered, own}
 use Rattle.rows.specs.Falls.{Ready, Moved, Fillable, Filled}
+use Rattle.rows.proofs.Links.{link_some, owned, unowned}
 use Rattle.rows.proofs.Chain.{closed_row, nil_row, fall_within, fall_reads}
 
 -- what stands behind is no longer
@@ -61,6 +65,15 @@ dict_row ks parent c = dictionary_cell forward ks (rows_of forward ks) (string_o
 module _ {ks : List Keyword} {d parent c : ℕ} {ws : List ℕ} (f : Fillable ks d parent c ws) where
   string-length : length (string_of ks parent c) ≡ d + 1
   string-length = omega (arith, length-append (get_or (rows_of forward ks) parent []) (c ∷ []), f.level)
+
+  -- the question for the child finds it
+  pub child_found : {found : Asked}
+      → Answered (rows_of forward ks) (get_or (rows_of forward ks) parent []) c found
+      → found.child ≡ Some (child_row ks parent c)
+  child_found answer =
+      let filled : 1 ≤ length (string_of ks parent c) = omega (arith, string-length) in
+      answer.child
+      ∙ link_some (child_row ks parent c) (λ z. omega (arith, row_of_pos f.filling.tree.rowed (string_of ks parent c) filled f.row))
 
   -- a step may start from the parent, and from its failure
   parent_ready : Ready (rows_of forward ks) d parent ws
@@ -125,22 +138,27 @@ module _ {ks : List Keyword} {d parent c : ℕ} {ws : List ℕ} (f : Fillable ks
       ≡ cond (is_keyword ks (behind_of ks parent c)) (behind_of ks parent c) (longest_behind (is_keyword ks) (behind_of ks parent c))
   dictionary_is = dictionary_failure ks (string_of ks parent c) (behind_of ks parent c) (rw (rows_test f.sound))
 
-  pub dict_keyed : {fail : ℕ} → fail ≡ fail_row ks parent c → (get_or ws (row_cells * fail + 4) 0 ≡ 0 → ⊥) → fail ≡ dict_row ks parent c
+  pub dict_keyed : {fail number : ℕ}
+      → fail ≡ fail_row ks parent c
+      → own (get_or ws (row_cells * fail + 4) 0) ≡ Some number
+      → fail ≡ dict_row ks parent c
   unfolding dictionary_cell read_by
-  dict_keyed at key =
+  dict_keyed {fail} {number} at key =
       let b = behind_of ks parent c in
+      let some = owned (get_or ws (row_cells * fail + 4) 0) number key in
       let keyword : is_keyword ks (behind_of ks parent c) ≡ true =
-      passes (is_keyword ks b) (λ t. key (rw at (key_is ∙ no_keyword_no_key forward ks b t))) in
+      passes (is_keyword ks b) (λ t. omega (arith, rw at at some, key_is, no_keyword_no_key forward ks b t)) in
       rw (at, dictionary_is, keyword)
 
   pub dict_unkeyed : {fail : ℕ}
       → fail ≡ fail_row ks parent c
-      → get_or ws (row_cells * fail + 4) 0 ≡ 0
+      → own (get_or ws (row_cells * fail + 4) 0) ≡ None
       → get_or ws (row_cells * fail + 5) 0 ≡ dict_row ks parent c
   unfolding dictionary_cell read_by
-  dict_unkeyed at key =
+  dict_unkeyed {fail} at key =
+      let none = unowned (get_or ws (row_cells * fail + 4) 0) key in
       let other : is_keyword ks (behind_of ks parent c) ≡ false =
-      no_key_no_keyword forward ks (behind_of ks parent c) (sym key_is ∙ (rw at at key)) in
+      no_key_no_keyword forward ks (behind_of ks parent c) (sym key_is ∙ (rw at at none)) in
       rw at (f.filling.dictionaries (fail_row ks parent c) fail_within behind_short ∙ rw (behind_reads, dictionary_is, other))
 
   pub dict_within : dict_row ks parent c < length (rows_of forward ks)

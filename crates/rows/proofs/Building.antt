@@ -3,16 +3,13 @@
 use Prim.Native.Nat.{ℕ, ◌+◌, ◌*◌, ◌≤◌, ◌<◌}
 use native.Mathlib.Omega.{arith}
 use mathlib.Core.Path.{◌≡◌, refl, sym, ◌∙◌, ap}
-use mathlib.Core.List.{List, [], ◌∷◌}
-use lib.ListN.{length, get_or, take, drop, replicate, get_or-replicate, get_or-append}
-use lib.Seq.{sets, length-sets, take_all, take-take}
+use mathlib.Core.List.{List, [], ◌∷◌, ◌++◌}
+use lib.ListN.{length, get_or, take, drop, replicate, length-drop, get_or-replicate, get_or-append}
+use lib.Seq.{take-take}
 use Rattle.rules.specs.sets.Limits.{row_cells}
 use Rattle.rules.specs.sets.Sets.{Keyword}
 use Rattle.rules.specs.rows.Rows.{Way, meet_words, rows_of, place_from, key_of}
-use Rattle.rules.specs.scans.Hits.{over}
-use Rattle.rules.specs.Beside.{Sound}
 use Rattle.rules.proofs.rows.Rows.{rowed-nil}
-use Rattle.rules.proofs.scans.Buffers.{over_none, over_sets, over_rest}
 use Rattle.rules.proofs.rows.Children.{child_of-nil}
 use Rattle.rows.specs.Tree.{Column, Beyond, byte_of, children_of, siblings_of}
 use Rattle.rows.specs.Builds.{rows_to, Inserting, Built}
@@ -20,29 +17,24 @@ use Rattle.rows.proofs.Columns.{beyond_more, beyond_trans}
 use Rattle.rows.proofs.Spelling.{rows_within}
 
 -- row 0 alone: six zeros
-abbrev root : List ℕ
+abbrev pub root : List ℕ
 root = replicate row_cells 0
 
 module _ (ws : List ℕ) (room : row_cells ≤ length ws) where
-  root_over : sets ws 0 root ≡ over root ws
-  root_over = sym (over_sets [] root ws room ∙ ap (λ (l : List ℕ). sets l 0 root) (over_none ws))
-
-  root_column : (j : ℕ) (f : ℕ → ℕ) → j < row_cells → f 0 ≡ 0 → Column j f 1 (sets ws 0 root)
-  unfolding over
+  root_column : (j : ℕ) (f : ℕ → ℕ) → j < row_cells → f 0 ≡ 0 → Column j f 1 (root ++ drop row_cells ws)
   root_column j f h e i q =
       let first : i ≡ 0 = omega arith in
       let at : row_cells * i + j ≡ j = omega arith in
-      ap (λ (l : List ℕ). get_or l (row_cells * i + j) 0) root_over
-      ∙ ap (λ (n : ℕ). get_or (over root ws) n 0) at
+      ap (λ (n : ℕ). get_or (root ++ drop row_cells ws) n 0) at
       ∙ get_or-append root (drop row_cells ws) 0 j h
       ∙ get_or-replicate row_cells j 0 0 h
       ∙ sym e
       ∙ ap f (sym first)
 
-  pub built-root : (way : Way) → Built way [] 1 ws (sets ws 0 root)
+  pub built-root : (way : Way) → Built way [] 1 ws (root ++ drop row_cells ws)
   unfolding rows_of meet_words byte_of children_of siblings_of place_from key_of
   built-root way =
-      let long : length (sets ws 0 root) ≡ length ws = length-sets ws 0 root in
+      let long : length (root ++ drop row_cells ws) ≡ length ws = omega (arith, length-drop row_cells ws) in
       record {
         counted = refl;
         held =
@@ -59,24 +51,8 @@ module _ (ws : List ℕ) (room : row_cells ≤ length ws) where
               keys = root_column 4 (λ i. 0) (omega arith) refl;
               dictionaries = root_column 5 (λ i. 0) (omega arith) refl;
             };
-        beyond = (long, ap (drop row_cells) root_over ∙ over_rest root ws);
+        beyond = (long, refl);
       }
-
--- what is built stays so where nothing more is done, and over further keywords
-pub built_here : {way : Way} {ks : List Keyword} {rows : ℕ} {ws ws' : List ℕ} → Built way ks rows ws ws' → Built way ks rows ws' ws'
-built_here so = record { counted = so.counted; held = so.held; beyond = (refl, refl) }
-
-pub built_on : {way : Way} {ks ls : List Keyword} {rows rows' : ℕ} {ws ws' ws'' : List ℕ}
-    → rows ≤ rows'
-    → Built way ks rows ws ws'
-    → Built way ls rows' ws' ws''
-    → Built way ls rows' ws ws''
-built_on {rows = rows} {rows'} {ws} {ws'} {ws''} grown so on =
-    record {
-      counted = on.counted;
-      held = on.held;
-      beyond = beyond_trans ws ws' ws'' rows' (beyond_more ws ws' rows rows' grown so.beyond) on.beyond;
-    }
 
 -- what is beyond the rows, whatever their number is called
 pub built_beyond : {way : Way} {ks : List Keyword} {rows : ℕ} (ws ws' : List ℕ) → Built way ks rows ws ws' → Beyond (length (rows_of way ks)) ws ws'
@@ -85,14 +61,12 @@ built_beyond ws ws' so = rw so.counted at so.beyond
 -- One keyword more, and all of them.
 module _ (way : Way) (ks : List Keyword) (i : ℕ) where
   pub built_inserting : {rows : ℕ} {ws ws' : List ℕ}
-      → Sound ks
       → i < length ks
       → row_cells * length (rows_of way ks) ≤ length ws
       → Built way (take i ks) rows ws ws'
       → Inserting way ks i rows ws'
-  built_inserting sound h room so =
+  built_inserting h room so =
       record {
-        sound = sound;
         within = h;
         counted = so.counted;
         held = so.held;
@@ -103,16 +77,12 @@ module _ (way : Way) (ks : List Keyword) (i : ℕ) where
       → Built way (take i ks) rows ws ws'
       → Built way (take (i + 1) ks) rows' ws' ws''
       → Built way (take (i + 1) ks) rows' ws ws''
-  built_more so on =
-      let grown : length (rows_to way ks i) ≤ length (rows_to way ks (i + 1)) =
+  built_more {rows} {rows'} {ws} {ws'} {ws''} so on =
+      let more : length (rows_to way ks i) ≤ length (rows_to way ks (i + 1)) =
       rw (take-take i (i + 1) ks (omega arith)) at (rows_within way (take (i + 1) ks) i) in
-      built_on (omega (arith, so.counted, on.counted)) so on
-
-  pub built_all : {rows : ℕ} {ws ws' ws'' : List ℕ}
-      → length ks ≤ i
-      → Built way [] 1 ws ws'
-      → Built way (take i ks) rows ws' ws''
-      → Built way ks rows ws ws''
-  built_all all so on =
-      let whole = rw (take_all i ks all) at on in
-      built_on (omega (arith, whole.counted, whole.held.tree.rowed.some)) so whole
+      let grown : rows ≤ rows' = omega (arith, so.counted, on.counted) in
+      record {
+        counted = on.counted;
+        held = on.held;
+        beyond = beyond_trans ws ws' ws'' rows' (beyond_more ws ws' rows rows' grown so.beyond) on.beyond;
+      }

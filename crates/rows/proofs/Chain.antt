@@ -5,18 +5,19 @@ use native.Mathlib.Omega.{arith}
 use mathlib.Core.Path.{◌≡◌, refl, sym, ◌∙◌, ap}
 use mathlib.Core.Bool.{true, false}
 use mathlib.Core.List.{List, [], ◌∷◌, ◌++◌}
-use lib.ListN.{length, get_or, length-append}
+use lib.ListN.{length, get_or}
+use Rattle.std.specs.Prelude.{Some, None}
 use Rattle.rules.specs.sets.Limits.{row_cells}
 use Rattle.rules.specs.strings.Strings.{same, any, longest, longest_behind}
-use Rattle.rules.specs.rows.Rows.{row_of, is_row}
+use Rattle.rules.specs.rows.Rows.{is_row}
 use Rattle.rules.specs.Beside.{Rowed}
-use Rattle.rules.proofs.strings.Strings.{passes, fails}
-use Rattle.rules.proofs.rows.Rows.{row_at, row_of_is, row_of-nil, row_of_pos, row_of_none, root_row}
+use Rattle.rules.proofs.rows.Rows.{row_at, row_of_is, row_of-nil, root_row}
 use Rattle.rules.proofs.rows.Children.{row_filled}
 use Rattle.rules.proofs.scans.State.{Closed, asked_by, longest_of, longest_falls, longest_one, asked-nil, asked_extends, asked_falls, behind-length, behind_passes}
 use Rattle.rows.specs.declared.tree.Asked.{Asked}
 use Rattle.rows.specs.Tree.{Answered}
 use Rattle.rows.specs.Falls.{Ready, Moved}
+use Rattle.rows.proofs.Walk.{answered_none, answered_row, answered_child}
 
 -- what is asked at `at` after some questions is what was asked at `row`
 pub record Falling (R : List (List ℕ)) (row c at asked : ℕ) : Type 0 where
@@ -42,15 +43,6 @@ module _ {R : List (List ℕ)} (rowed : Rowed R) where
   behind_row : (i : ℕ) → any (same (longest_behind (is_row R) (get_or R i []))) R ≡ true
   behind_row i = behind_passes (is_row R) nil_row (get_or R i [])
 
-  -- a child's row is never 0, so 0 says that there is none
-  child_none : (s : List ℕ) (c : ℕ) → row_of R (s ++ (c ∷ [])) ≡ 0 → is_row R (s ++ (c ∷ [])) ≡ false
-  child_none s c z =
-      let filled : 1 ≤ length (s ++ (c ∷ [])) = omega (arith, length-append s (c ∷ [])) in
-      fails (any (same (s ++ (c ∷ []))) R) (λ t. omega (arith, row_of_pos rowed (s ++ (c ∷ [])) filled t))
-
-  child_some : (s : List ℕ) (c : ℕ) → (row_of R (s ++ (c ∷ [])) ≡ 0 → ⊥) → is_row R (s ++ (c ∷ [])) ≡ true
-  child_some s c n = passes (any (same (s ++ (c ∷ []))) R) (λ f. n (row_of_none R (s ++ (c ∷ [])) f))
-
 -- the failure of a row: a shorter row
 module _ {R : List (List ℕ)} {d row : ℕ} {ws : List ℕ} (ready : Ready R d row ws) where
   pub fall_within : (i : ℕ) → i < length R → length (get_or R i []) ≤ d → get_or ws (row_cells * i + 3) 0 < length R
@@ -63,14 +55,14 @@ module _ {R : List (List ℕ)} {d row : ℕ} {ws : List ℕ} (ready : Ready R d 
 
   -- the question at a row of the chain, and what its answer tells
   module _ {c at asked : ℕ} (f : Falling R row c at asked) {found : Asked} (answer : Answered R (get_or R at []) c found) where
-    pub falling_more : found.child ≡ 0 → (at ≡ 0 → ⊥) → Falling R row c (get_or ws (row_cells * at + 3) 0) (asked + 1)
+    pub falling_more : found.child ≡ None → (at ≡ 0 → ⊥) → Falling R row c (get_or ws (row_cells * at + 3) 0) (asked + 1)
     falling_more gone some =
         let rowed = ready.tree.rowed in
         let s = get_or R at [] in
         let short : length (get_or R at []) ≤ d = omega (arith, f.shorter, ready.shallow) in
         let pos : 1 ≤ at = omega arith in
         let filled : 1 ≤ length (get_or R at []) = row_filled rowed at pos f.within in
-        let fails : is_row R (get_or R at [] ++ (c ∷ [])) ≡ false = child_none rowed s c (sym answer.child ∙ gone) in
+        let fails : is_row R (get_or R at [] ++ (c ∷ [])) ≡ false = (answered_none rowed answer gone).0 in
         let reads : get_or R (get_or ws (row_cells * at + 3) 0) [] ≡ longest_behind (is_row R) (get_or R at []) = fall_reads at f.within short in
         record {
           within = fall_within at f.within short;
@@ -79,23 +71,23 @@ module _ {R : List (List ℕ)} {d row : ℕ} {ws : List ℕ} (ready : Ready R d 
           counts = rw reads (omega (arith, f.counts, asked_falls (is_row R) s c filled (is-row rowed at f.within) fails));
         }
 
-    pub falling_child : (found.child ≡ 0 → ⊥) → Moved R (get_or R row []) c (record { row = found.child; asked = asked + 1 })
+    pub falling_child : {next : ℕ} → found.child ≡ Some next → Moved R (get_or R row []) c (record { row = next; asked = asked + 1 })
     unfolding asked_by
     falling_child some =
         let rowed = ready.tree.rowed in
         let s = get_or R at [] in
-        let goes : is_row R (get_or R at [] ++ (c ∷ [])) ≡ true = child_some rowed s c (λ z. some (answer.child ∙ z)) in
+        let goes : is_row R (get_or R at [] ++ (c ∷ [])) ≡ true = (answered_child rowed answer some).2 in
         record {
-          row = rw (f.leads, longest_of (is_row R) (s ++ (c ∷ [])) goes) answer.child;
+          row = rw (f.leads, longest_of (is_row R) (s ++ (c ∷ [])) goes) (answered_row rowed answer some);
           asked = omega (arith, f.counts, asked_extends (is_row R) s c (is-row rowed at f.within) goes);
         }
 
-    pub falling-root : found.child ≡ 0 → at ≡ 0 → Moved R (get_or R row []) c (record { row = 0; asked = asked + 1 })
+    pub falling-root : found.child ≡ None → at ≡ 0 → Moved R (get_or R row []) c (record { row = 0; asked = asked + 1 })
     unfolding asked_by
     falling-root gone root =
         let rowed = ready.tree.rowed in
         let empty : get_or R at [] ≡ [] = rw root rowed.first in
-        let fails : is_row R (c ∷ []) ≡ false = rw empty at (child_none rowed (get_or R at []) c (sym answer.child ∙ gone)) in
+        let fails : is_row R (c ∷ []) ≡ false = rw empty at ((answered_none rowed answer gone).0) in
         record {
           row = rw (f.leads, empty, longest_one (is_row R) c fails) (sym (row_of-nil rowed));
           asked = omega (arith, rw empty at f.counts, asked-nil (is_row R) (nil_row rowed) c);

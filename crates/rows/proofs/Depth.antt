@@ -20,10 +20,9 @@ use Rattle.rules.proofs.strings.Strings.{either}
 use Rattle.rules.proofs.strings.Orders.{get_or_mem, mem_at}
 use Rattle.rules.proofs.rows.Rows.{row_at, row_of_is, row_of_at, row_of-nil}
 use Rattle.rules.proofs.rows.PrefixRows.{prefix_row, row_prefix}
-use Rattle.rows.specs.declared.levels.Standing.{Standing}
 use Rattle.rows.specs.Tree.{Held, Beyond}
 use Rattle.rows.specs.Falls.{Filling, Fillable, Filled}
-use Rattle.rows.specs.Levels.{Level, Levelled}
+use Rattle.rows.specs.Levels.{Levelled}
 use Rattle.rows.proofs.Written.{Right, filling_right, right_new, right_kept, filling-kept, beyond-kept}
 
 -- the beginning of the keyword at place k with at most d bytes, and its row
@@ -34,15 +33,15 @@ abbrev front_row : List Keyword → ℕ → ℕ → ℕ
 front_row ks d k = row_of (rows_of forward ks) (front ks d k)
 
 -- the keyword at place k stands a byte further, at a row that is filled
-abbrev Further : List Keyword → ℕ → Standing → List ℕ → ℕ → Type 0
-Further ks d standing ws k = (get_or standing.rows k 0 ≡ front_row ks (d + 1) k) × Right ks ws (front_row ks (d + 1) k)
+abbrev Further : List Keyword → ℕ → List ℕ → List ℕ → ℕ → Type 0
+Further ks d standing ws k = (get_or standing k 0 ≡ front_row ks (d + 1) k) × Right ks ws (front_row ks (d + 1) k)
 
 -- before the keyword at place i: the keywords before it stand further, the others not yet
-pub record Halfway (ks : List Keyword) (d : ℕ) (before : List ℕ) (i : ℕ) (standing : Standing) (ws : List ℕ) : Type 0 where
-  pub full : length standing.rows ≡ most_keywords
+pub record Halfway (ks : List Keyword) (d : ℕ) (before : List ℕ) (i : ℕ) (standing ws : List ℕ) : Type 0 where
+  pub full : length standing ≡ most_keywords
   pub filling : Filling ks d ws
   pub passed : (k : ℕ) → k < i → Further ks d standing ws k
-  pub left : (k : ℕ) → i ≤ k → k < length ks → get_or standing.rows k 0 ≡ front_row ks d k
+  pub left : (k : ℕ) → i ≤ k → k < length ks → get_or standing k 0 ≡ front_row ks d k
   pub beyond : Beyond (length (rows_of forward ks)) before ws
 
 -- each beginning is a row
@@ -65,20 +64,7 @@ row-front ks sound r row =
       ap (λ (l : Keyword). take (length r) l.word) (is no_keyword) ∙ ap (take (length r)) word ∙ take-append_seam r rest,
     )
 
-pub halfway_none : {ks : List Keyword} {d : ℕ} {standing : Standing} {ws : List ℕ}
-    → Level ks d standing ws
-    → length standing.rows ≡ most_keywords
-    → Halfway ks d ws 0 standing ws
-halfway_none level full =
-    record {
-      full = full;
-      filling = level.filling;
-      passed = λ k q. absurd (omega arith);
-      left = λ k p q. level.stands k q;
-      beyond = (refl, refl);
-    }
-
-module _ {ks : List Keyword} {d : ℕ} {before : List ℕ} {i : ℕ} {standing : Standing} {ws : List ℕ} (sound : Sound ks) (h : Halfway ks d before i standing ws) where
+module _ {ks : List Keyword} {d : ℕ} {before : List ℕ} {i : ℕ} {standing ws : List ℕ} (sound : Sound ks) (h : Halfway ks d before i standing ws) where
   -- the keyword at place i is not longer: its beginning is the whole word, whose row is filled
   pub halfway_skip : i < length ks → length (nth ks i).word ≤ d → Halfway ks d before (i + 1) standing ws
   halfway_skip q short =
@@ -96,13 +82,13 @@ module _ {ks : List Keyword} {d : ℕ} {before : List ℕ} {i : ℕ} {standing :
 
   -- the keyword at place i is longer: its next byte leads to its next row
   module _ (q : i < length ks) (long : d < length (nth ks i).word) {c : ℕ} (byte : c ≡ get_or (nth ks i).word d 0) where
-    stood : get_or (rows_of forward ks) (get_or standing.rows i 0) [] ≡ front ks d i
+    stood : get_or (rows_of forward ks) (get_or standing i 0) [] ≡ front ks d i
     stood = rw (h.left i (omega arith) q) (row_of_is (rows_of forward ks) (front ks d i) (front-row ks d i q)).1
 
-    leads : get_or (rows_of forward ks) (get_or standing.rows i 0) [] ++ (c ∷ []) ≡ front ks (d + 1) i
+    leads : get_or (rows_of forward ks) (get_or standing i 0) [] ++ (c ∷ []) ≡ front ks (d + 1) i
     leads = rw (stood, byte, add-one d) (sym (take-suc (nth ks i).word d 0 long))
 
-    pub halfway_fillable : Fillable ks d (get_or standing.rows i 0) c ws
+    pub halfway_fillable : Fillable ks d (get_or standing i 0) c ws
     halfway_fillable =
         record {
           sound = sound;
@@ -113,23 +99,23 @@ module _ {ks : List Keyword} {d : ℕ} {before : List ℕ} {i : ℕ} {standing :
         }
 
     pub halfway_more : {row : ℕ} {ws' : List ℕ}
-        → Filled ks (get_or standing.rows i 0) c row ws ws'
-        → Halfway ks d before (i + 1) (record { rows = set standing.rows i row }) ws'
+        → Filled ks (get_or standing i 0) c row ws ws'
+        → Halfway ks d before (i + 1) (set standing i row) ws'
     halfway_more {row} {ws'} w =
-        let room : i < length standing.rows = omega (arith, h.full, sound.few) in
+        let room : i < length standing = omega (arith, h.full, sound.few) in
         let at : row ≡ front_row ks (d + 1) i = w.child ∙ rw leads in
         let rest = beyond-kept h.filling w in
         record {
-          full = length-set standing.rows i row ∙ h.full;
+          full = length-set standing i row ∙ h.full;
           filling = filling-kept h.filling w;
           passed =
               below_more _ i
               (λ k r. (
-                get_or-set_other standing.rows i k row 0 (λ e. omega arith) ∙ (h.passed k r).0,
+                get_or-set_other standing i k row 0 (λ e. omega arith) ∙ (h.passed k r).0,
                 right_kept h.filling w (front_row ks (d + 1) k) (h.passed k r).1,
               ))
-              (get_or-set_same standing.rows i row 0 room ∙ at, rw at at (right_new h.filling w));
-          left = λ k p r. get_or-set_other standing.rows i k row 0 (λ e. omega arith) ∙ h.left k (omega arith) r;
+              (get_or-set_same standing i row 0 room ∙ at, rw at at (right_new h.filling w));
+          left = λ k p r. get_or-set_other standing i k row 0 (λ e. omega arith) ∙ h.left k (omega arith) r;
           beyond = (rest.0 ∙ h.beyond.0, rest.1 ∙ h.beyond.1);
         }
 
@@ -170,8 +156,8 @@ empty (x ∷ r) h = absurd (omega arith)
 
 pub levelled_none : {ks : List Keyword} {ws : List ℕ}
     → Held forward ks (rows_of forward ks) ws
-    → (standing : Standing)
-    → ((k : ℕ) → k < length ks → get_or standing.rows k 0 ≡ 0)
+    → (standing : List ℕ)
+    → ((k : ℕ) → k < length ks → get_or standing k 0 ≡ 0)
     → Levelled ks 0 standing ws ws
 unfolding failure_cell dictionary_cell longest_behind
 levelled_none {ks} held standing zeros =
@@ -186,16 +172,4 @@ levelled_none {ks} held standing zeros =
           };
       stands = λ k q. zeros k q ∙ sym root;
       beyond = (refl, refl);
-    }
-
--- levels behind levels
-pub levelled_more : {ks : List Keyword} {d e : ℕ} {was standing : Standing} {before ws ws' : List ℕ}
-    → Levelled ks d was before ws
-    → Levelled ks e standing ws ws'
-    → Levelled ks e standing before ws'
-levelled_more a b =
-    record {
-      filling = b.filling;
-      stands = b.stands;
-      beyond = (b.beyond.0 ∙ a.beyond.0, b.beyond.1 ∙ a.beyond.1);
     }

@@ -1,4 +1,5 @@
 -- Laws of a workspace that holds rows, which the proofs of the functions lean on.
+pub mod Links
 pub mod Columns
 pub mod Walk
 pub mod Appended

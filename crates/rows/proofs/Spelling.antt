@@ -8,6 +8,7 @@ use mathlib.Core.Bool.{true, false}
 use mathlib.Core.List.{List, [], ◌∷◌, ◌++◌}
 use lib.ListN.{length, get_or, take, drop, set, length-append, length-take, take-append-drop}
 use lib.Seq.{take-suc, take_all, get_or-take}
+use Rattle.std.specs.Prelude.{Some, None}
 use Rattle.rules.specs.sets.Limits.{row_cells, most_rows}
 use Rattle.rules.specs.strings.Strings.{same, any}
 use Rattle.rules.specs.sets.Sets.{Keyword, is_keyword}
@@ -24,7 +25,7 @@ use Rattle.words.proofs.Counted.{front_more}
 use Rattle.rows.specs.declared.tree.Asked.{Asked}
 use Rattle.rows.specs.Tree.{Held, Answered, Beyond, appended}
 use Rattle.rows.specs.Builds.{rows_to, Inserting, Built}
-use Rattle.rows.proofs.Walk.{answered_none, answered_child}
+use Rattle.rows.proofs.Walk.{answered_none, answered_row, answered_child}
 use Rattle.rows.proofs.Columns.{held_keyed, beyond-set, beyond_more, beyond_trans}
 use Rattle.rows.proofs.Appended.{Growing, growing, held-appended, beyond-appended}
 
@@ -114,14 +115,14 @@ module _ {way : Way} {ks : List Keyword} {i rows : ℕ} {ws : List ℕ} (before 
   spelled_reads : get_or (met way ks i k) row [] ≡ front way ks i k
   spelled_reads = rw so.standing (row_of_is (met way ks i k) (front way ks i k) (met_reads way ks i k)).1
 
-  pub spelled_few : count ≤ most_rows
-  spelled_few =
+  pub spelled_few : Sound ks → count ≤ most_rows
+  spelled_few sound =
       omega (
         arith,
         so.counted,
         met_below way ks i k before.within,
         rows_within way ks (i + 1),
-        rows_few way ks before.sound,
+        rows_few way ks sound,
       )
 
   pub spelled_room : row_cells * row + row_cells ≤ length ws'
@@ -133,7 +134,7 @@ module _ {way : Way} {ks : List Keyword} {i rows : ℕ} {ws : List ℕ} (before 
     next_bytes : front way ks i (k + 1) ≡ longer way ks i k
     next_bytes = rw (add-one k) (take-suc (read_at way ks i) k 0 more)
 
-    pub spelled_old : (r.child ≡ 0 → ⊥) → Spelled way ks i (k + 1) r.child count ws ws'
+    pub spelled_old : {next : ℕ} → r.child ≡ Some next → Spelled way ks i (k + 1) next count ws ws'
     spelled_old found =
         let R = met way ks i k in
         let known = rw spelled_reads at answered in
@@ -143,11 +144,11 @@ module _ {way : Way} {ks : List Keyword} {i rows : ℕ} {ws : List ℕ} (before 
           low = omega arith;
           held = rw same_rows so.held;
           counted = rw same_rows so.counted;
-          standing = rw (same_rows, next_bytes) known.child;
+          standing = rw (same_rows, next_bytes) (answered_row so.held.tree.rowed known found);
           beyond = so.beyond;
         }
 
-    module _ (missing : r.child ≡ 0) where
+    module _ (missing : r.child ≡ None) where
       absent : any (same (longer way ks i k)) (met way ks i k) ≡ false
       absent = (answered_none so.held.tree.rowed (rw spelled_reads at answered) missing).0
 
@@ -185,13 +186,13 @@ module _ {way : Way} {ks : List Keyword} {i rows : ℕ} {ws : List ℕ} (before 
           }
 
   -- all bytes: the row is the keyword's, and its number is written there
-  pub spelled_all : length (read_at way ks i) ≤ k → Built way (take (i + 1) ks) count ws (set ws' (row_cells * row + 4) ((nth ks i).number + 1))
+  pub spelled_all : Sound ks → length (read_at way ks i) ≤ k → Built way (take (i + 1) ks) count ws (set ws' (row_cells * row + 4) ((nth ks i).number + 1))
   unfolding read_at
-  spelled_all end =
+  spelled_all sound end =
       let w = read_at way ks i in
       let old = take i ks in
       let all : met way ks i k ≡ rows_of way (old ++ (nth ks i ∷ [])) = met_all way ks i k end in
-      let free : key_of way old w ≡ 0 = key_of_fresh way old (nth ks i).word (new_at before.sound i before.within) in
+      let free : key_of way old w ≡ 0 = key_of_fresh way old (nth ks i).word (new_at sound i before.within) in
       rw (front_more ks i before.within, add-one (nth ks i).number)
       (record {
         counted = rw all at so.counted;

@@ -3,7 +3,6 @@ use Rattle.std.specs.Prelude.{ℕ, ◌+◌, ◌*◌, ◌≤◌, ◌<◌, ◌≡�
 use Rattle.rules.specs.sets.Limits.{row_cells}
 use Rattle.rules.specs.sets.Sets.{Keyword}
 use Rattle.rules.specs.rows.Rows.{Way, rows_of}
-use Rattle.rules.specs.Beside.{Sound}
 use Rattle.rows.specs.Tree.{Held, Beyond}
 
 -- the rows of the first n of the keywords ks
@@ -12,7 +11,6 @@ rows_to way ks n = rows_of way (take n ks)
 
 -- Before the keyword at place i goes in: the rows of those before it are held, and there is room for its own.
 pub record Inserting (way : Way) (ks : List Keyword) (i rows : ℕ) (ws : List ℕ) : Type 0 where
-  pub sound : Sound ks
   pub within : i < length ks
   pub counted : rows ≡ length (rows_to way ks i)
   pub held : Held way (take i ks) (rows_to way ks i) ws

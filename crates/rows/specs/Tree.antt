@@ -1,5 +1,5 @@
 -- A workspace that holds rows: each number of a row by the definitions of `rules`.
-use Rattle.std.specs.Prelude.{ℕ, zero, suc, ◌+◌, ◌-◌, ◌*◌, ◌≤◌, ◌<◌, ◌≡◌, Bool, cond, List, [], ◌∷◌, ◌++◌, length, get_or, drop, set, eqb}
+use Rattle.std.specs.Prelude.{ℕ, zero, suc, ◌+◌, ◌-◌, ◌*◌, ◌≤◌, ◌<◌, ◌≡◌, Bool, cond, Option, Some, None, List, [], ◌∷◌, ◌++◌, length, get_or, drop, set}
 use Rattle.std.proofs.lemmas.List.Edits.{sets}
 use Rattle.rules.specs.sets.Limits.{row_cells}
 use Rattle.rules.specs.strings.Strings.{same, keep, count_to}
@@ -11,6 +11,16 @@ use Rattle.rows.specs.declared.tree.Asked.{Asked}
 -- number j of each of the first n rows is what f says
 abbrev pub Column : ℕ → (ℕ → ℕ) → ℕ → List ℕ → Type 0
 Column j f n ws = (i : ℕ) → i < n → get_or ws (row_cells * i + j) 0 ≡ f i
+
+-- a number that names a row: 0 names none
+unfoldable pub link : ℕ → Option ℕ
+link zero = None
+link (suc i) = Some (suc i)
+
+-- a row's own keyword number, which stands plus one: 0 says that there is none
+unfoldable pub own : ℕ → Option ℕ
+own zero = None
+own (suc n) = Some n
 
 -- the first three numbers of row i: the byte added, the lowest child, the next sibling
 unfoldable pub byte_of : List (List ℕ) → ℕ → ℕ
@@ -37,18 +47,21 @@ unfoldable pub last_from : ℕ → ℕ → (List ℕ → Bool) → List (List �
 last_from d n p [] = d
 last_from d n p (r ∷ rows) = last_from (cond (p r) n d) (suc n) p rows
 
--- The question for the byte c at the row s: the child's row, 0 for none; how many children are compared, up to and with
--- that child, or all; the last one compared, 0 where there is no child at all.
+-- The question for the byte c at the row s: the child's row, if there is one; how many children are compared, up to and
+-- with that child, or all; the last one compared, if there is a child at all.
 pub record Answered (R : List (List ℕ)) (s : List ℕ) (c : ℕ) (r : Asked) : Type 0 where
-  pub child : r.child ≡ row_of R (s ++ (c ∷ []))
+  pub child : r.child ≡ link (row_of R (s ++ (c ∷ [])))
   pub compared : r.compared ≡ count_to (same (s ++ (c ∷ []))) (keep (child_of s) R)
-  pub last : r.last ≡ cond (is_row R (s ++ (c ∷ []))) r.child (last_from 0 0 (child_of s) R)
+  pub last : r.last ≡ cond (is_row R (s ++ (c ∷ []))) r.child (link (last_from 0 0 (child_of s) R))
+
+-- where the number that leads to a new row stands: at its parent, or at the last of its siblings
+unfoldable pub link_at : ℕ → Option ℕ → ℕ
+link_at parent None = row_cells * parent + 1
+link_at parent (Some last) = row_cells * last + 2
 
 -- a workspace with one row more: six numbers behind the others, and the one link that leads there
-unfoldable pub appended : List ℕ → ℕ → ℕ → ℕ → ℕ → List ℕ
-appended ws rows parent last c =
-    sets (cond (eqb last 0) (set ws (row_cells * parent + 1) rows) (set ws (row_cells * last + 2) rows)) (row_cells * rows)
-    (c ∷ 0 ∷ 0 ∷ 0 ∷ 0 ∷ 0 ∷ [])
+unfoldable pub appended : List ℕ → ℕ → ℕ → Option ℕ → ℕ → List ℕ
+appended ws rows parent last c = sets (set ws (link_at parent last) rows) (row_cells * rows) (c ∷ 0 ∷ 0 ∷ 0 ∷ 0 ∷ 0 ∷ [])
 
 -- the workspace holds the rows R, with the keywords ks at theirs and neither failures nor dictionary rows
 pub record Held (way : Way) (ks : List Keyword) (R : List (List ℕ)) (ws : List ℕ) : Type 0 where

@@ -1,22 +1,48 @@
 // The six numbers of a row, by name.
-ghost use Rattle.std.specs.Prelude.{◌≡◌, ◌+◌, ◌*◌, ◌<◌, ◌≤◌, length, get_or};
+ghost use Rattle.std.specs.Prelude.{◌≡◌, ◌+◌, ◌*◌, ◌<◌, ◌≤◌, length, get_or, set};
 ghost use Rattle.rules.specs.sets.Limits.{row_cells};
+ghost use Rattle.rows.specs.Cells.{place};
+ghost use Rattle.rows.specs.Tree.{link, own};
 
 use rules::CELLS;
 
-// A number of a row as a place.
-fn wide(x: u16) -> usize
-    ensures { (result ≡ x) × (result < 65536) }
-{
-    x as usize
+// The numbers of a row, in their order.
+#[derive(Clone, Copy)]
+pub(crate) enum Cell {
+    Byte,
+    Child,
+    Sibling,
+    Failure,
+    Key,
+    Dictionary,
 }
 
-// Number k of a row.
-fn cell(ws: &[u16], row: usize, k: usize) -> usize
-    requires { (row_cells * row + row_cells ≤ length ws.now) × (k < row_cells) }
-    ensures { (result ≡ get_or ws.now (row_cells * row + k) 0) × (result < 65536) }
+// A number of a row.
+fn get(ws: &[u16], row: usize, which: Cell) -> u16
+    requires { row_cells * row + row_cells ≤ length ws.now }
+    ensures { result ≡ get_or ws.now (row_cells * row + place which) 0 }
 {
-    wide(ws[CELLS * row + k])
+    ws[CELLS * row + which as usize]
+}
+
+// Writes a number of a row.
+pub(crate) fn put(ws: &mut [u16], row: usize, which: Cell, number: u16)
+    requires { row_cells * row + row_cells ≤ length ws.old }
+    ensures { ws.new ≡ set ws.old (row_cells * row + place which) number }
+{
+    ws[CELLS * row + which as usize] = number;
+}
+
+// A number of a row as the row that it names; it names none where it is 0.
+fn named(ws: &[u16], row: usize, which: Cell) -> Option<usize>
+    requires { row_cells * row + row_cells ≤ length ws.now }
+    ensures { (result ≡ link (get_or ws.now (row_cells * row + place which) 0))
+        × (get_or ws.now (row_cells * row + place which) 0 < 65536) }
+{
+    match get(ws, row, which) {
+        0 => None,
+        at => Some(usize::from(at)),
+    }
 }
 
 // The byte that the row adds to its parent.
@@ -24,45 +50,49 @@ pub(crate) fn byte(ws: &[u16], row: usize) -> u16
     requires { row_cells * row + row_cells ≤ length ws.now }
     ensures { result ≡ get_or ws.now (row_cells * row + 0) 0 }
 {
-    ws[CELLS * row + 0]
+    get(ws, row, Cell::Byte)
 }
 
-// The lowest-numbered child; 0 where there is none.
-pub(crate) fn child(ws: &[u16], row: usize) -> usize
+// The lowest-numbered child.
+pub(crate) fn child(ws: &[u16], row: usize) -> Option<usize>
     requires { row_cells * row + row_cells ≤ length ws.now }
-    ensures { (result ≡ get_or ws.now (row_cells * row + 1) 0) × (result < 65536) }
+    ensures { (result ≡ link (get_or ws.now (row_cells * row + 1) 0))
+        × (get_or ws.now (row_cells * row + 1) 0 < 65536) }
 {
-    cell(ws, row, 1)
+    named(ws, row, Cell::Child)
 }
 
-// The next higher row with the same parent; 0 where there is none.
-pub(crate) fn sibling(ws: &[u16], row: usize) -> usize
+// The next higher row with the same parent.
+pub(crate) fn sibling(ws: &[u16], row: usize) -> Option<usize>
     requires { row_cells * row + row_cells ≤ length ws.now }
-    ensures { (result ≡ get_or ws.now (row_cells * row + 2) 0) × (result < 65536) }
+    ensures { (result ≡ link (get_or ws.now (row_cells * row + 2) 0))
+        × (get_or ws.now (row_cells * row + 2) 0 < 65536) }
 {
-    cell(ws, row, 2)
+    named(ws, row, Cell::Sibling)
 }
 
-// The failure row.
+// The failure row. It is row 0 itself where no longer suffix is a row.
 pub(crate) fn failure(ws: &[u16], row: usize) -> usize
     requires { row_cells * row + row_cells ≤ length ws.now }
     ensures { (result ≡ get_or ws.now (row_cells * row + 3) 0) × (result < 65536) }
 {
-    cell(ws, row, 3)
+    usize::from(get(ws, row, Cell::Failure))
 }
 
-// The row's own keyword number plus one; 0 where it is none.
-pub fn key(ws: &[u16], row: usize) -> usize
+// The row's own keyword number.
+pub fn key(ws: &[u16], row: usize) -> Option<u16>
     requires { row_cells * row + row_cells ≤ length ws.now }
-    ensures { (result ≡ get_or ws.now (row_cells * row + 4) 0) × (result < 65536) }
+    ensures { (result ≡ own (get_or ws.now (row_cells * row + 4) 0))
+        × (get_or ws.now (row_cells * row + 4) 0 < 65536) }
 {
-    cell(ws, row, 4)
+    get(ws, row, Cell::Key).checked_sub(1)
 }
 
-// The row of the longest proper suffix that is a keyword; 0 where there is none.
-pub fn dictionary(ws: &[u16], row: usize) -> usize
+// The row of the longest proper suffix that is a keyword.
+pub fn dictionary(ws: &[u16], row: usize) -> Option<usize>
     requires { row_cells * row + row_cells ≤ length ws.now }
-    ensures { (result ≡ get_or ws.now (row_cells * row + 5) 0) × (result < 65536) }
+    ensures { (result ≡ link (get_or ws.now (row_cells * row + 5) 0))
+        × (get_or ws.now (row_cells * row + 5) 0 < 65536) }
 {
-    cell(ws, row, 5)
+    named(ws, row, Cell::Dictionary)
 }

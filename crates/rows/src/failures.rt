@@ -3,9 +3,8 @@ ghost use Rattle.std.specs.Prelude.{List, [], ℕ, ◌+◌, ◌*◌, get_or};
 ghost use Rattle.rules.specs.sets.Sets.{Keyword};
 ghost use Rattle.rows.specs.Falls.{Ready, Moved, Fillable, Filled};
 
-use crate::cells::{dictionary, failure, key};
+use crate::cells::{Cell, dictionary, failure, key, put};
 use crate::tree::ask;
-use rules::CELLS;
 
 // Where a step leads, and how many questions it took.
 #[derive(Drop)]
@@ -19,13 +18,12 @@ pub fn advance(ws: &[u16], row: usize, c: u16) -> Advanced
     requires { (R : List (List ℕ)) × (d : ℕ) × Ready R d row ws.now }
     ensures { (R : List (List ℕ)) (d : ℕ) → Ready R d row ws.now → Moved R (get_or R row []) c result }
 {
-    let mut at = row;
+    let mut at = row; // 0 is the row of the empty string, and no none
     let mut asked = 0;
     loop {
         let found = ask(ws, at, c);
-        let next = found.child;
         asked += 1;
-        if next != 0 {
+        if let Some(next) = found.child {
             return Advanced { row: next, asked };
         }
         if at == 0 {
@@ -43,18 +41,18 @@ pub(crate) fn fill_row(ws: &mut [u16], parent: usize, c: u16) -> usize
         → Filled ks parent c result ws.old ws.new }
 {
     let found = ask(ws, parent, c);
-    let row = found.child;
-    let mut fail = 0;
-    if parent != 0 {
+    let row = found.child.unwrap();
+    let fail = if parent == 0 {
+        0
+    } else {
         let up = failure(ws, parent);
-        let moved = advance(ws, up, c);
-        fail = moved.row;
-    }
-    let mut dict = fail;
-    if key(ws, fail) == 0 {
-        dict = dictionary(ws, fail);
-    }
-    ws[CELLS * row + 3] = fail as u16;
-    ws[CELLS * row + 5] = dict as u16;
+        advance(ws, up, c).row
+    };
+    let dict = match key(ws, fail) {
+        Some(_) => fail,
+        None => dictionary(ws, fail).unwrap_or(0),
+    };
+    put(ws, row, Cell::Failure, fail as u16);
+    put(ws, row, Cell::Dictionary, dict as u16);
     row
 }

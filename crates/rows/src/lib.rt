@@ -12,21 +12,19 @@ ghost use Rattle.std.specs.Prelude.{◌≡◌, ◌*◌, ◌≤◌, length};
 ghost use Rattle.rules.specs.sets.Limits.{row_cells};
 ghost use Rattle.rules.specs.rows.Rows.{rows_of, cells};
 ghost use Rattle.rules.specs.scans.Hits.{over};
-ghost use Rattle.rules.specs.Beside.{Sound};
-ghost use Rattle.words.specs.Items.{Words, keywords_in};
+ghost use Rattle.words.specs.Items.{keywords_in};
 ghost use Rattle.words.specs.Read.{way_of};
 ghost use Rattle.rows.specs.Beginning.{Begun};
 
-use crate::entry::{Verdict, enter};
-use rules::{Counted, Way};
+use crate::entry::enter;
+use rules::{Refusal, Way};
+use words::Keywords;
 
 // The rows of keywords, read one way, at the front of a workspace with room for them; how many there are.
-fn lay(ws: &mut [u16], words: &[u16], way: Way) -> usize
-    requires { Words words.now
-        × Sound (keywords_in words.now)
-        × (row_cells * length (rows_of (way_of way) (keywords_in words.now)) ≤ length ws.old) }
-    ensures { (result ≡ length (rows_of (way_of way) (keywords_in words.now)))
-        × (ws.new ≡ over (cells (way_of way) (keywords_in words.now)) ws.old) }
+fn lay(ws: &mut [u16], words: Keywords<'_>, way: Way) -> usize
+    requires { row_cells * length (rows_of (way_of way) (keywords_in words.list.now)) ≤ length ws.old }
+    ensures { (result ≡ length (rows_of (way_of way) (keywords_in words.entry.list.now)))
+        × (ws.new ≡ over (cells (way_of way) (keywords_in words.entry.list.now)) ws.old) }
 {
     let rows = build::build(ws, words, way);
     if let Way::Forward = way {
@@ -38,13 +36,9 @@ fn lay(ws: &mut [u16], words: &[u16], way: Way) -> usize
 // What each job begins with, once its keywords are read: the tests 8 and 9, of a trace of so many bytes and of the
 // workspace, and where they pass the rows at its front; how many there are, or the refusal. A job that has no trace
 // passes none, and test 8 passes.
-pub fn begin(ws: &mut [u16], words: &[u16], way: Way, trace: usize) -> Counted
-    requires { Words words.now × Sound (keywords_in words.now) }
-    ensures { Begun (way_of way) (keywords_in words.now) trace ws.old result ws.new }
+pub fn begin(ws: &mut [u16], words: Keywords<'_>, way: Way, trace: usize) -> Result<u16, Refusal>
+    ensures { Begun (way_of way) (keywords_in words.entry.list.now) trace ws.old result ws.new }
 {
-    let verdict = enter(words, way, trace, ws.len());
-    if let Verdict::Refuse(fault) = verdict {
-        return Counted::Refused(fault);
-    }
-    Counted::Number(lay(ws, words, way) as u16)
+    enter(words, way, trace, ws.len())?;
+    Ok(lay(ws, words, way) as u16)
 }

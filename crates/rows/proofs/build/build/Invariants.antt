@@ -1,5 +1,4 @@
--- What each turn keeps, and what falls.
-use Prim.Native.Nat.{◌-◌, ◌≤◌}
+-- What each turn keeps.
 use lib.ListN.{take}
 use Rattle.words.specs.Items.{keywords_in}
 use Rattle.words.specs.Read.{way_of}
@@ -7,7 +6,4 @@ use Rattle.rows.specs.Builds.{Built}
 use Rattle.rows.proofs.build.build.Given as goal
 
 abbrev pub invariant-loop-i : goal.invariant-loop-i
-invariant-loop-i l = (l.i ≤ l.keywords) × Built (way_of l.way) (take l.i (keywords_in l.words)) l.rows l.initial.ws l.ws
-
-abbrev pub decreases-loop-i : goal.decreases-loop-i
-decreases-loop-i l = l.keywords - l.i
+invariant-loop-i l = Built (way_of l.way) (take l.i (keywords_in l.words.list.now)) l.rows l.fn.ws l.ws

@@ -6,8 +6,8 @@ use Rattle.rows.specs.Falls.{Ready}
 use Rattle.rows.proofs.Chain.{Falling}
 use Rattle.rows.proofs.failures.advance.Given as goal
 
-abbrev pub invariant-loop-row : goal.invariant-loop-row
-invariant-loop-row l = (R : List (List ℕ)) (d : ℕ) → Ready R d l.row l.ws → Falling R l.row l.c l.at l.asked
+abbrev pub invariant-loop-next : goal.invariant-loop-next
+invariant-loop-next l = (R : List (List ℕ)) (d : ℕ) → Ready R d l.row l.ws → Falling R l.row l.c l.at l.asked
 
-abbrev pub decreases-loop-row : goal.decreases-loop-row
-decreases-loop-row l = longest_word + 1 - l.asked
+abbrev pub decreases-loop-next : goal.decreases-loop-next
+decreases-loop-next l = longest_word + 1 - l.asked

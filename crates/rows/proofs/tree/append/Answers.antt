@@ -1,51 +1,44 @@
--- The stores are those of `appended`, one by one: the link at the parent or at the last sibling, and the new row's
--- six numbers.
-use Prim.Native.Nat.{◌+◌, ◌*◌}
+-- The link is written at the parent or at the last sibling, and behind the rows the new row's six numbers.
+use Prim.Native.Nat.{ℕ, ◌+◌, ◌*◌}
 use native.Mathlib.Omega.{arith}
-use native.Mathlib.Numerals.{towards_suc}
-use mathlib.Core.Path.{◌≡◌, ◌∙◌, ap}
-use mathlib.Core.Bool.{cond}
-use lib.ListN.{length, set, length-set}
-use lib.Dec.{eqb}
-use borrow.Author.Tests.{eq-eqb, ne_eqb}
+use native.Mathlib.Numerals.{add-one}
+use mathlib.Core.Path.{◌≡◌, sym, ◌∙◌, ap}
+use mathlib.Core.List.{List, ◌∷◌}
+use lib.ListN.{length, set, replicate, length-set, length-take, length-drop}
+use lib.Seq.{sets, sets-eq}
+use Rattle.std.proofs.lemmas.Slice.{put_mid-paste}
 use Rattle.rules.specs.sets.Limits.{row_cells}
-use Rattle.rows.specs.Tree.{appended}
+use Rattle.rows.specs.Tree.{link_at, appended}
 use Rattle.rows.proofs.tree.append.Goals as goal
-use Rattle.rows.proofs.tree.append.Goals.{Joined-last-eq0, else-last-eq0, then-last-eq0}
+use Rattle.rows.proofs.tree.append.Goals.{Joined-last, After-fill, in-None, in-Some}
 
--- where the arms meet, one link is written and the workspace is as long as it was
-linked : (c : Joined-last-eq0)
-    → c.if-last-eq0.ws
-    ≡ cond (eqb c.args.last 0)
-    (set c.args.ws.now (row_cells * c.args.parent + 1) c.args.rows)
-    (set c.args.ws.now (row_cells * c.args.last + 2) c.args.rows)
+-- where the arms meet, one link is written
+linked : (c : Joined-last) → c.match-last.ws ≡ set c.args.ws.now (link_at c.args.parent c.args.last) c.args.rows
+unfolding link_at
 linked c =
-    elim c.if-last-eq0.branch [ then-last-eq0 w ↦ rw (eq-eqb c.args.last 0 w.if-last-eq0.true) w.ws-is | else-last-eq0 w ↦ rw (ne_eqb c.args.last 0 w.if-last-eq0.false) w.ws-is ]
+    elim c.match-last.branch [
+      | in-None w ↦ w.ws-is ∙ w.put.ensures ∙ (rw w.in-None.is)
+      | in-Some w ↦ w.ws-is ∙ w.put-in-Some.ensures ∙ (rw w.in-Some.is)
+    ]
 
-long : (c : Joined-last-eq0) → length c.if-last-eq0.ws ≡ length c.args.ws.now
-long c = elim c.if-last-eq0.branch [ then-last-eq0 w ↦ ap length w.ws-is ∙ simp length-set | else-last-eq0 w ↦ ap length w.ws-is ∙ simp length-set ]
+-- behind its byte a new row has five zeros
+abbrev zeros : List ℕ
+zeros = replicate 5 0
 
-pub bounds-ws-at : goal.bounds-ws-at
-bounds-ws-at c = omega (arith, long (goal.at.bounds-ws-at c).Joined-last-eq0)
-
-pub bounds-ws-at-2 : goal.bounds-ws-at-2
-bounds-ws-at-2 c = simp length-set (omega (arith, long (goal.at.bounds-ws-at-2 c).Joined-last-eq0))
-
-pub bounds-ws-at-3 : goal.bounds-ws-at-3
-bounds-ws-at-3 c = simp length-set (omega (arith, long (goal.at.bounds-ws-at-3 c).Joined-last-eq0))
-
-pub bounds-ws-at-4 : goal.bounds-ws-at-4
-bounds-ws-at-4 c = simp length-set (omega (arith, long (goal.at.bounds-ws-at-4 c).Joined-last-eq0))
-
-pub bounds-ws-at-5 : goal.bounds-ws-at-5
-bounds-ws-at-5 c = simp length-set (omega (arith, long (goal.at.bounds-ws-at-5 c).Joined-last-eq0))
-
-pub bounds-ws-at-6 : goal.bounds-ws-at-6
-bounds-ws-at-6 c = simp length-set (omega (arith, long (goal.at.bounds-ws-at-6 c).Joined-last-eq0))
-
-pub shape_of-ws : goal.shape_of-ws
-shape_of-ws c = simp length-set (long (goal.at.shape_of-ws c).Joined-last-eq0)
+cleared : (c : After-fill) → c.fill.new.self ≡ zeros
+cleared c = five _ (c.fill.ensures.after (λ y same. same)) (simp (length-take, length-drop, length-set) (omega arith))
+  where
+    five : {l : List ℕ} (n : ℕ) → l ≡ replicate n 0 → n ≡ 5 → l ≡ zeros
+    five n e is = rw is at e
 
 pub returns : goal.returns
 unfolding appended
-returns c = rw (← (linked (goal.at.returns c).Joined-last-eq0)) (simp towards_suc)
+returns c =
+    let ws = c.match-last.ws in
+    let at = row_cells * c.args.rows in
+    let born : List ℕ = set c.match-last.ws (row_cells * c.args.rows) c.args.c in
+    let long : length born ≡ length c.args.ws.now = length-set ws at c.args.c ∙ c.match-last.auto.ws in
+    put_mid-paste (at + 1) _ born c.fill.new.self zeros 5 (cleared (goal.at.returns c).After-fill) (omega arith) (omega arith)
+    ∙ sym (sets-eq zeros born (at + 1) (omega (arith, c.requires.0, long)))
+    ∙ (rw (add-one at))
+    ∙ ap (λ (l : List ℕ). sets l at (c.args.c ∷ zeros)) (linked (goal.at.returns c).Joined-last)
