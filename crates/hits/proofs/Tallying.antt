@@ -4,10 +4,10 @@ use native.Mathlib.Omega.{arith}
 use mathlib.Core.Path.{◌≡◌, refl, sym, ◌∙◌, ap}
 use mathlib.Core.List.{List, [], ◌∷◌, ◌++◌, Memᴰ}
 use lib.ListN.{length, set, length-append}
-use Rattle.rules.specs.sets.Limits.{most_keywords, most_energy}
+use Rattle.rules.specs.sets.Limits.{most_energy}
 use Rattle.rules.specs.sets.Sets.{Keyword}
 use Rattle.rules.specs.scans.Hits.{Hit, energy, hit_buffer}
-use Rattle.rules.specs.Beside.{nth, numbered}
+use Rattle.rules.specs.Beside.{Sound, nth, numbered}
 use Rattle.rules.proofs.scans.Hits.{energy-append}
 use Rattle.rules.proofs.rows.KeyNumbers.{numbered_is}
 use Rattle.rules.proofs.scans.Buffers.{hit_buffer_none, hit_buffer_more, hit_buffer_full, hit_buffer-length}
@@ -66,20 +66,18 @@ module _ {done : List Hit} {old : List ℕ} {tally : Tally} {hs : List ℕ} (tal
       }
 
 -- what is known of the keyword that is hit
-module _ {l : List ℕ} {end n : ℕ} {done : List Hit} {old : List ℕ} {tally : Tally} {hs : List ℕ} (so : Hitting l end n done old tally hs) where
+module _ {l : List ℕ} {end n : ℕ} {done : List Hit} {old : List ℕ} {tally : Tally} {hs : List ℕ} (sound : Sound (keywords_in l))
+    (so : Hitting l end n done old tally hs) where
   is : numbered (keywords_in l) n ≡ so.named.0
-  is = ap (numbered (keywords_in l)) (sym so.named.2) ∙ numbered_is so.sound.numbered so.named.1
+  is = ap (numbered (keywords_in l)) (sym so.named.2) ∙ numbered_is sound.numbered so.named.1
 
   pub hitting-named : (hit_of (keywords_in l) end n).keyword.number ≡ n
   unfolding hit_of
   hitting-named = ap (λ (k : Keyword). k.number) is ∙ so.named.2
 
-  pub hitting_small : n < most_keywords
-  hitting_small = omega (arith, so.sound.slots so.named.0 so.named.1, so.named.2)
-
   pub hitting_figure : (hit_of (keywords_in l) end n).keyword.energy ≤ most_energy
   unfolding hit_of
-  hitting_figure = rw is (so.sound.figures so.named.0 so.named.1)
+  hitting_figure = rw is (sound.figures so.named.0 so.named.1)
 
   pub hitting_charged : (i : ℕ) {energy : ℕ}
       → energy ≡ (nth (keywords_in l) i).energy

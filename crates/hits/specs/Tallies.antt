@@ -3,8 +3,8 @@ use Rattle.std.specs.Prelude.{ℕ, ◌*◌, ◌/◌, ◌≤◌, min, ◌≡◌, 
 use Rattle.rules.specs.sets.Limits.{longest_word, longest_trace, most_energy}
 use Rattle.rules.specs.sets.Sets.{Keyword}
 use Rattle.rules.specs.scans.Hits.{Hit, energy, hit_buffer}
-use Rattle.rules.specs.Beside.{Sound, numbered, Named}
-use Rattle.words.specs.Items.{Words, keywords_in}
+use Rattle.rules.specs.Beside.{numbered, Named}
+use Rattle.words.specs.Items.{keywords_in}
 use Rattle.hits.specs.declared.Tally.{Tally}
 
 -- the hit at an end of the keyword with a number
@@ -21,8 +21,6 @@ pub record Tallied (done : List Hit) (old : List ℕ) (tally : Tally) (hs : List
 -- before one hit more, at an end, of the keyword of the list l with the number n: the tally so far, and room in the
 -- counters
 pub record Hitting (l : List ℕ) (end n : ℕ) (done : List Hit) (old : List ℕ) (tally : Tally) (hs : List ℕ) : Type 0 where
-  pub words : Words l
-  pub sound : Sound (keywords_in l)
   pub named : Named (keywords_in l) n
   pub near : end ≤ longest_trace
   pub few : length done ≤ longest_word * longest_trace

@@ -6,7 +6,7 @@ ghost use Rattle.rules.specs.scans.Hits.{Hit};
 ghost use Rattle.words.specs.Items.{keywords_in};
 ghost use Rattle.hits.specs.Tallies.{Tallied, Hitting, hit_of};
 
-use words::{energy_of, place_of};
+use words::{Keywords, item_at, place_of};
 
 // What a scan has found: how many hits, their energy, and how many of them are listed.
 #[derive(Drop)]
@@ -28,23 +28,24 @@ pub fn nothing() -> Tally
 }
 
 // One hit more, at an end, of the keyword with a number.
-pub fn list(words: &[u16], hits: &mut [u32], end: usize, number: usize, tally: Tally) -> Tally
-    requires { (done : List Hit) × (old : List ℕ) × Hitting words.now end number done old tally hits.old }
+pub fn list(words: Keywords<'_>, hits: &mut [u32], end: usize, number: usize, tally: Tally) -> Tally
+    requires { (done : List Hit) × (old : List ℕ) × Hitting words.list.now end number done old tally hits.old }
     ensures { (done : List Hit) (old : List ℕ)
-        → Hitting words.now end number done old tally hits.old
-        → Tallied (done ++ (hit_of (keywords_in words.now) end number ∷ [])) old result hits.new }
+        → Hitting words.entry.list.now end number done old tally hits.old
+        → Tallied (done ++ (hit_of (keywords_in words.entry.list.now) end number ∷ [])) old result hits.new }
 {
     let at = tally.listed;
-    let mut listed = at;
-    if at < hits.len() / 2 {
+    let listed = if at < hits.len() / 2 {
         hits[2 * at] = end as u32;
         hits[2 * at + 1] = number as u32;
-        listed = at + 1;
-    }
-    let place = place_of(words, number);
+        at + 1
+    } else {
+        at
+    };
+    let keyword = item_at(words.list, place_of(words, number));
     Tally {
         count: tally.count + 1,
-        energy: tally.energy + energy_of(words, place),
+        energy: tally.energy + u64::from(keyword.energy),
         listed,
     }
 }

@@ -1,18 +1,21 @@
 -- What each turn keeps, and what falls.
-use Prim.Native.Nat.{ℕ}
-use mathlib.Core.Path.{◌≡◌}
-use mathlib.Core.List.{List, [], ◌∷◌, ◌++◌}
+use Prim.Native.Nat.{◌<◌}
 use lib.ListN.{length}
-use Rattle.forward.specs.Progress.{Ending}
-use Rattle.forward.proofs.Endings.{string_at, Listing}
+use Rattle.words.specs.Items.{keywords_in}
+use Rattle.forward.specs.Progress.{Listing, string_at, dictionary_in}
+use Rattle.forward.proofs.States.{rows_for}
 use Rattle.forward.proofs.list_hits.Given as goal
 
-abbrev pub invariant-loop-at : goal.invariant-loop-at
-invariant-loop-at l =
-    (length l.hits ≡ length l.initial.hits)
-    × ((u : List ℕ) (b : ℕ) (old : List ℕ)
-    → Ending l.words u b old l.ws l.row l.end l.initial.next l.initial.hits
-    → Listing l.words (u ++ (b ∷ [])) old l.at l.next l.hits)
+abbrev pub ghost-list_own : goal.ghost-list_own
+ghost-list_own g a = g.course
 
-abbrev pub decreases-loop-at : goal.decreases-loop-at
-decreases-loop-at l = length (string_at l.words l.at)
+abbrev pub invariant-loop-behind : goal.invariant-loop-behind
+invariant-loop-behind g l =
+    record {
+      within : l.at < length (rows_for (keywords_in l.scan.words.list.now));
+      listing : Listing (keywords_in l.scan.words.list.now) g.course (dictionary_in l.scan.ws.now l.at) l.end l.next
+          l.hits;
+    }
+
+abbrev pub decreases-loop-behind : goal.decreases-loop-behind
+decreases-loop-behind g l = length (string_at (keywords_in l.scan.words.list.now) l.at)

@@ -1,19 +1,16 @@
--- What each turn keeps, and what falls.
-use Prim.Native.Nat.{ℕ, ◌-◌, ◌≤◌}
+-- Each turn reads a byte more of the same scan.
+use Prim.Native.Nat.{◌+◌}
 use mathlib.Core.Path.{◌≡◌}
-use mathlib.Core.List.{List, ◌++◌}
-use lib.ListN.{length, take}
 use Rattle.words.specs.Items.{keywords_in}
-use Rattle.forward.specs.Progress.{Scanning, Going}
+use Rattle.forward.specs.Progress.{Going}
 use Rattle.forward.proofs.proceed.Given as goal
 
-abbrev pub invariant-loop-i : goal.invariant-loop-i
-invariant-loop-i l =
-    (l.i ≤ length l.trace)
-    × (length l.hits ≡ length l.initial.hits)
-    × ((u : List ℕ) (old : List ℕ)
-    → Going l.words u old l.ws (length l.trace) l.initial.next l.initial.hits
-    → Scanning (keywords_in l.words) (u ++ take l.i l.trace) old l.next l.hits)
+abbrev pub ghost-step : goal.ghost-step
+ghost-step g a = g.course
 
-abbrev pub decreases-loop-i : goal.decreases-loop-i
-decreases-loop-i l = length l.trace - l.i
+abbrev pub invariant-loop-c : goal.invariant-loop-c
+invariant-loop-c g l =
+    record {
+      going : Going (keywords_in l.scan.words.list.now) g.course l.next l.hits;
+      end : l.next.end ≡ l.initial.next.end + l.c-index;
+    }
