@@ -1,14 +1,14 @@
 -- The far numbers of the places passed, fifteen a keyword: each is the lowest distance met so far, or the shortest
 -- keyword's length, so behind the last place it is the least at which some keyword holds the byte.
-use Prim.Native.Nat.{ℕ, suc, ◌+◌, ◌-◌, ◌*◌, ◌/◌, ◌%◌, ◌≤◌, ◌<◌, min}
+use Prim.Native.Nat.{ℕ, zero, suc, ◌+◌, ◌-◌, ◌*◌, ◌/◌, ◌%◌, ◌≤◌, ◌<◌, min}
 use native.Mathlib.Omega.{arith}
-use native.Mathlib.Nat.{eq-or-lt_of_le, zero-add}
+use native.Mathlib.Nat.{eq-or-lt_of_le, zero-add, add-zero}
 use mathlib.Core.Path.{◌≡◌, refl, sym, ◌∙◌, ap}
 use mathlib.Core.Logic.{◌⊎◌, inl, inr, ⊎_elim}
 use mathlib.Core.Bool.{true, false}
-use mathlib.Core.List.{List, [], ◌∷◌, map}
-use lib.ListN.{length, get_or, set, replicate, length-map, length-set, length-replicate, get_or-replicate}
-use lib.Seq.{get_or-set_same, get_or-set_other, ext_get_or}
+use mathlib.Core.List.{List, [], ◌∷◌, ◌++◌, append_assoc, map}
+use lib.ListN.{length, get_or, set, replicate, length-map, length-append, length-set, length-replicate, get_or-replicate}
+use lib.Seq.{get_or-append-add, get_or-set_same, get_or-set_other, ext_get_or}
 use lib.Dec.{eqb, leb, ltb}
 use borrow.Author.Tests.{eqb-true, eq-eqb, eqb-false, leb-true, leb-false, ltb-true, ltb-false}
 use Rattle.rules.specs.sets.Limits.{longest_word, depths, opcodes}
@@ -23,7 +23,7 @@ use Rattle.rules.proofs.strings.Orders.{mem_at}
 use Rattle.rules.proofs.skips.Distances.{holds_short}
 use Rattle.rules.proofs.skips.Lowest.{least_is, holds_byte}
 use Rattle.rules.proofs.skips.Tables.{count-length, count_at}
-use Rattle.skips.specs.Fars.{lowered, far_table}
+use Rattle.skips.specs.Fars.{Bytes, lowered, lowered_by, far_table}
 use Rattle.skips.proofs.Lowering.{lowered-length, lowered_before, lowered_behind}
 
 -- place p is that of a keyword's byte a with d bytes of the keyword after it; and so is one of the first q places
@@ -135,12 +135,49 @@ module _ {ks : List Keyword} {m : ℕ} (q : ℕ) {t : List (List ℕ)} (old : Ta
           rw (lowered_behind (get_or t a []) d z (ltb-false z d n))
           (nearest_other ks m a z q (old.nearest a z small h) (λ k l u. omega (arith, ltb-false z d n, u.behind, here.behind))))
 
+-- a keyword's bytes are met one after another from the front, p before w, and then the places behind its end
+module _ {ks : List Keyword} {m : ℕ} (i : ℕ) (ok : Bytes (nth ks i).word) where
+  table_behind : (left k : ℕ) {t : List (List ℕ)} → left + k ≡ longest_word → length (nth ks i).word ≤ k
+      → Table ks m (longest_word * i + k) t
+      → Table ks m (longest_word * i + longest_word) t
+  table_behind zero k e h known = let all : longest_word * i + k ≡ longest_word * i + longest_word = omega arith in rw (← all) known
+  table_behind (suc left) k e h known =
+      let place : (longest_word * i + k) / longest_word ≡ i = omega arith in
+      let depth : (longest_word * i + k) % longest_word ≡ k = omega arith in
+      let more : longest_word * i + k + 1 ≡ longest_word * i + (k + 1) = omega arith in
+      table_behind left (k + 1) (omega arith) (omega arith)
+      (rw more at (table_other (longest_word * i + k) known (λ a d held. omega (arith, rw (place, depth) at held.behind))))
+
+  table_rest : (p w : List ℕ) {t : List (List ℕ)} → (nth ks i).word ≡ p ++ w
+      → Table ks m (longest_word * i + length p) t
+      → Table ks m (longest_word * i + longest_word) (lowered_by w t)
+  unfolding lowered_by
+  table_rest p [] e known =
+      let all : length (nth ks i).word ≡ length p = omega (arith, ap length e, length-append p []) in
+      table_behind (longest_word - length p) (length p) (omega (arith, ok.short)) (omega arith) known
+  table_rest p (a ∷ w) e known =
+      let q : ℕ = longest_word * i + length p in
+      let long : length (nth ks i).word ≡ length p + suc (length w) = ap length e ∙ length-append p (a ∷ w) in
+      let place : (longest_word * i + length p) / longest_word ≡ i = omega (arith, ok.short) in
+      let depth : (longest_word * i + length p) % longest_word ≡ length p = omega (arith, ok.short) in
+      let byte : get_or (nth ks i).word (length p) 0 ≡ a = rw (e, ← (add-zero (length p))) (get_or-append-add p (a ∷ w) 0 0) in
+      let here : Held ks q a (length w) = record { behind = rw (place, depth) (omega arith); byte = rw (place, depth) byte } in
+      let small : a < opcodes = rw byte at (ok.small (length p) (omega arith)) in
+      let more : longest_word * i + length p + 1 ≡ longest_word * i + length (p ++ (a ∷ [])) = omega (arith, length-append p (a ∷ [])) in
+      table_rest (p ++ (a ∷ [])) w (e ∙ sym (append_assoc p (a ∷ []) w)) (rw more at (table-met q known a (length w) small here))
+
+  pub table_keyword : {t : List (List ℕ)} → Table ks m (longest_word * i) t → Table ks m (longest_word * (i + 1)) (lowered_by (nth ks i).word t)
+  table_keyword known =
+      let more : longest_word * (i + 1) ≡ longest_word * i + longest_word = omega arith in
+      let none : longest_word * i ≡ longest_word * i + 0 = omega arith in
+      rw more (table_rest [] (nth ks i).word refl (rw none at known))
+
 -- the table of the definition
 far_table-length : (ks : List Keyword) → length (far_table ks) ≡ 256
 unfolding far_table
 far_table-length ks = length-map (count 0 opcodes) (λ a. map (far ks a) (count 0 depths)) ∙ count-length 0 opcodes
 
-far_table_row : (ks : List Keyword) (a : ℕ) → a < 256 → get_or (far_table ks) a [] ≡ map (far ks a) (count 0 depths)
+pub far_table_row : (ks : List Keyword) (a : ℕ) → a < 256 → get_or (far_table ks) a [] ≡ map (far ks a) (count 0 depths)
 unfolding far_table
 far_table_row ks a h =
     get_or-map_within (λ b. map (far ks b) (count 0 depths)) (count 0 opcodes) a 0 [] (omega (arith, count-length 0 opcodes))

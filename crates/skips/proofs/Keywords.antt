@@ -5,15 +5,13 @@ use mathlib.Core.Path.{◌≡◌}
 use mathlib.Core.List.{List, Memᴰ}
 use lib.ListN.{length, get_or, length-drop}
 use lib.Seq.{get_or-drop}
-use Rattle.rules.specs.declared.Way.TheVariants.{Forward}
 use Rattle.rules.specs.sets.Limits.{longest_word, opcodes}
 use Rattle.rules.specs.sets.Sets.{Keyword}
-use Rattle.rules.specs.rows.Rows.{read_by}
 use Rattle.rules.specs.Beside.{no_keyword, nth}
 use Rattle.rules.proofs.strings.Orders.{get_or_mem}
 use Rattle.words.specs.Items.{Words, Has, keywords_in}
-use Rattle.words.specs.Read.{way_of, read_at}
 use Rattle.words.proofs.Items.{has_at}
+use Rattle.skips.specs.Fars.{Bytes}
 use Rattle.skips.specs.Suffixes.{Listed, Suffix, suffix_at}
 
 -- a keyword of a set that passed: its length and its bytes
@@ -27,16 +25,12 @@ module _ {ks : List Keyword} {i : ℕ} (ok : Listed ks i) where
   pub listed_byte : (k : ℕ) → k < length (nth ks i).word → get_or (nth ks i).word k 0 < opcodes
   listed_byte k h = ok.sound.bytes (nth ks i) listed_mem (get_or (nth ks i).word k 0) (get_or_mem (nth ks i).word 0 k h)
 
+  pub listed_bytes : Bytes (nth ks i).word
+  listed_bytes = record { short = listed_short; small = listed_byte }
+
 -- where a list of words holds the keywords, it has this one
 pub listed_has : {l : List ℕ} {i : ℕ} → Words l → Listed (keywords_in l) i → Has l i
 listed_has words ok = has_at words ok.within
-
--- a unit read forward is the keyword's
-pub unit_read : (ks : List Keyword) (i k : ℕ) {r : ℕ}
-    → r ≡ get_or (read_at (way_of Forward) ks i) k 0
-    → r ≡ get_or (nth ks i).word k 0
-unfolding way_of read_at read_by
-unit_read ks i k e = e
 
 -- the last z bytes of a keyword
 module _ {ks : List Keyword} {i z : ℕ} (ok : Suffix ks i z) where

@@ -11,6 +11,6 @@ pub mod Compared
 pub mod Rowwise
 pub mod Bytewise
 pub mod Tested
+pub mod Outcomes
 pub mod Accepts
 pub mod Made
-pub mod Outcomes

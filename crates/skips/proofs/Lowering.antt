@@ -1,11 +1,13 @@
 -- A byte's numbers are lowered one after another from the front: each turn is one more of `lowered`.
-use Prim.Native.Nat.{ℕ, zero, suc, ◌-◌, ◌≤◌, ◌<◌, min}
+use Prim.Native.Nat.{ℕ, zero, suc, ◌+◌, ◌-◌, ◌≤◌, ◌<◌, min}
 use native.Mathlib.Omega.{arith}
+use native.Mathlib.Numerals.{add-one}
 use native.Mathlib.Nat.{suc-sub-suc, sub-zero}
 use mathlib.Core.Path.{◌≡◌, refl, ap}
 use mathlib.Core.List.{List, [], ◌∷◌, ◌++◌}
-use lib.ListN.{length, take, drop, set, get_or, take-append-drop}
-use Rattle.skips.specs.Fars.{lowered}
+use lib.ListN.{length, take, drop, set, get_or, take-append-drop, length-drop}
+use lib.Seq.{drop-cons}
+use Rattle.skips.specs.Fars.{lowered, lowered_by}
 
 -- each number: those before depth d are at most the bytes between, those behind stay
 pub lowered-length : (ns : List ℕ) (d : ℕ) → length (lowered ns d) ≡ length ns
@@ -51,3 +53,11 @@ partly_all (n ∷ ns) zero zero h = refl
 partly_all (n ∷ ns) zero (suc z) h = ap (λ (l : List ℕ). n ∷ l) (take-append-drop z ns)
 partly_all (n ∷ ns) (suc d) zero h = absurd (omega arith)
 partly_all (n ∷ ns) (suc d) (suc z) h = ap (λ (l : List ℕ). min n (suc d) ∷ l) (partly_all ns d z (omega arith))
+
+-- the byte at place k of a keyword, and those behind it
+pub lowered_next : (w : List ℕ) (far : List (List ℕ)) (k : ℕ) → k < length w
+    → lowered_by (drop k w) far ≡ lowered_by (drop (k + 1) w) (set far (get_or w k 0) (lowered (get_or far (get_or w k 0) []) (length w - 1 - k)))
+unfolding lowered_by
+lowered_next w far k h =
+    let behind : length (drop (suc k) w) ≡ length w - 1 - k = omega (arith, length-drop (suc k) w) in
+    rw (drop-cons w k 0 h, add-one k, ← behind)

@@ -12,7 +12,7 @@ use Rattle.rules.specs.sets.Sets.{Keyword}
 use Rattle.rules.specs.rows.Rows.{backward, read_by, rows_of}
 use Rattle.rules.specs.skips.Skips.{suffix_rows}
 use Rattle.rules.specs.Beside.{Sound, nth}
-use Rattle.rules.proofs.rows.Rows.{rowed_rows, read_by-length}
+use Rattle.rules.proofs.rows.Rows.{rowed_rows}
 use Rattle.rules.proofs.strings.Parts.{reverse-take}
 use Rattle.rules.proofs.rows.NewRows.{set_row_at}
 use Rattle.rules.proofs.skips.Tables.{suffix_rows_at}
@@ -35,8 +35,8 @@ before_all ks i e = ap (λ (l : List Keyword). length (rows_of backward l)) (tak
 
 module _ {ks : List Keyword} {i : ℕ} (ok : Listed ks i) where
   shared_within : shared_at ks i ≤ length (nth ks i).word
-  unfolding shared_at read_at
-  shared_within = most_within ks i ok.within backward (read_by-length backward (nth ks i).word)
+  unfolding shared_at
+  shared_within = most_within ks i ok.within backward
 
   before_more : rows_before ks (i + 1) ≡ rows_before ks i + (length (nth ks i).word - shared_at ks i)
   unfolding shared_at rows_before
@@ -52,7 +52,7 @@ module _ {ks : List Keyword} {i : ℕ} (ok : Listed ks i) where
       ∙ reverse-take (nth ks i).word (suc (j + shared_at ks i)) h
 
 -- row 0 is the empty suffix of any keyword
-pub at_first : (ks : List Keyword) → Sound ks → At ks 0 (record { keyword = 0; depth = 0 })
+pub at_first : (ks : List Keyword) → Sound ks → At ks 0 0 0
 unfolding suffix_at
 at_first ks sound =
     let listed : Listed ks 0 = record { sound = sound; within = sound.some } in
@@ -76,7 +76,7 @@ module _ {ks : List Keyword} {rows i z : ℕ} (so : Walked ks rows i z) (fewer :
   long = length (nth ks i).word
 
   -- it has a byte more
-  pub walked_row : z < long → At ks rows (record { keyword = i; depth = z + 1 })
+  pub walked_row : z < long → At ks rows i (z + 1)
   walked_row h =
       let shared : shared_at ks i ≤ z = so.shared in
       let j : ℕ = z - shared_at ks i in

@@ -4,33 +4,21 @@ use Prim.Native.Nat.{ℕ, suc, ◌+◌, ◌*◌, ◌≤◌, ◌<◌}
 use native.Mathlib.Omega.{arith}
 use native.Mathlib.Numerals.{add-one}
 use mathlib.Core.Path.{◌≡◌, refl, sym, ◌∙◌, ap}
-use mathlib.Core.Bool.{Bool, true, false, ◌||◌, not, cond}
+use mathlib.Core.Bool.{◌||◌, not}
 use mathlib.Core.List.{List, [], ◌∷◌, ◌++◌}
 use lib.ListN.{length, take, drop, get_or, drop_of_length-le}
 use lib.Seq.{drop-cons, drop-drop, take-take, take_at, get_or-take, get_or-append-add}
-use lib.Dec.{eqb}
-use borrow.Author.Tests.{ne_eqb}
 use Rattle.rules.specs.sets.Limits.{longest_word, row_record}
 use Rattle.rules.specs.strings.Strings.{same}
 use Rattle.rules.specs.sets.Sets.{Keyword}
 use Rattle.rules.specs.skips.Skips.{inner, edge, suffix_rows, named, record_of}
 use Rattle.rules.specs.answers.Refusals.{Verdict, pass, refuse, refuse_if, or_else, faulty, row_verdicts}
-use Rattle.rules.proofs.answers.Verdicts.{refuse_no_pass}
-use Rattle.rules.proofs.answers.Refused.{Numbered, numbered_if, numbered_both}
-use Rattle.rules.proofs.skips.Tables.{named-length}
+use Rattle.rules.proofs.answers.Verdicts.{or_else_assoc}
+use Rattle.rules.proofs.skips.Tables.{named-length, suffix_rows-length}
 use Rattle.skips.specs.Judging.{fault_of}
+use Rattle.skips.specs.Suffixes.{At, suffix_at}
+use Rattle.skips.proofs.Keywords.{suffix-length, suffix_short}
 use Rattle.skips.proofs.Compared.{row_record_at}
-
--- a row's fault as its verdict
-unfoldable fault_verdict : ℕ → ℕ → Verdict
-fault_verdict n i = cond (eqb n 11) (refuse 11 i) (cond (eqb n 12) (refuse 12 i) pass)
-
-decided : (right bad : Bool) (i : ℕ) (w : Verdict)
-    → or_else (refuse_if (not right) 11 i) (or_else (refuse_if bad 12 i) w) ≡ or_else (fault_verdict (cond right (cond bad 12 0) 11) i) w
-unfolding fault_verdict or_else refuse_if
-decided true true i w = refl
-decided true false i w = refl
-decided false bad i w = refl
 
 -- the record with the largest numbers: its name and its numbers
 record_name : (ks : List Keyword) (v : List ℕ) → length v ≤ longest_word → take 16 (record_of ks v) ≡ named v
@@ -43,10 +31,12 @@ record_number ks v h j =
     let behind : 16 + j ≡ length (named v) + j = omega (arith, named-length v h) in
     ap (λ (n : ℕ). get_or (named v ++ (inner ks v ∷ edge ks v ∷ [])) n 0) behind ∙ get_or-append-add (named v) (inner ks v ∷ edge ks v ∷ []) j 0
 
-fault_is : (ks : List Keyword) (v f : List ℕ) → length v ≤ longest_word
-    → fault_of (record_of ks v) (take row_record f) ≡ cond (same (take 16 f) (named v)) (cond (faulty (inner ks v) (get_or f 16 0) || faulty (edge ks v) (get_or f 17 0)) 12 0) 11
+-- the tests of a row, and those behind it
+fault_is : (ks : List Keyword) (i : ℕ) (v f : List ℕ) (rest : Verdict) → length v ≤ longest_word
+    → or_else (refuse_if (not (same (take 16 f) (named v))) 11 i) (or_else (refuse_if (faulty (inner ks v) (get_or f 16 0) || faulty (edge ks v) (get_or f 17 0)) 12 i) rest)
+    ≡ or_else (fault_of i (record_of ks v) (take row_record f)) rest
 unfolding fault_of
-fault_is ks v f h =
+fault_is ks i v f rest h =
     rw (
       take-take 16 row_record f (omega arith),
       record_name ks v h,
@@ -54,7 +44,7 @@ fault_is ks v f h =
       record_number ks v h 1,
       get_or-take row_record f 16 0 (omega arith),
       get_or-take row_record f 17 0 (omega arith),
-    )
+    ) (sym (or_else_assoc _ _ rest))
 
 -- the rows before one passed
 pub record RowsPassed (ks : List Keyword) (file : List ℕ) (row : ℕ) : Type 0 where
@@ -63,48 +53,49 @@ pub record RowsPassed (ks : List Keyword) (file : List ℕ) (row : ℕ) : Type 0
 pub rows_none : (ks : List Keyword) (file : List ℕ) → RowsPassed ks file 0
 rows_none ks file = record { left = refl }
 
--- and that one, of the suffix v, shows the fault n
-pub record RowTold (ks : List Keyword) (file : List ℕ) (row : ℕ) (v : List ℕ) (n : ℕ) : Type 0 where
+-- and what that one, of the suffix v, shows is w
+pub record RowTold (ks : List Keyword) (file : List ℕ) (row : ℕ) (w : Verdict) : Type 0 where
   pub passed : RowsPassed ks file row
   pub within : row < length (suffix_rows ks)
-  pub names : get_or (suffix_rows ks) row [] ≡ v
-  pub short : length v ≤ longest_word
-  pub fault : n ≡ fault_of (record_of ks v) (row_record_at file row)
+  pub fault : w ≡ fault_of row (record_of ks (get_or (suffix_rows ks) row [])) (row_record_at file row)
+  pub short : length (get_or (suffix_rows ks) row []) ≤ longest_word
 
-module _ {ks : List Keyword} {file : List ℕ} {row : ℕ} {v : List ℕ} {n : ℕ} (told : RowTold ks file row v n) where
-  -- the tests of that row, and those behind it
-  step : row_verdicts ks 0 (suffix_rows ks) file ≡ or_else (fault_verdict n row) (row_verdicts ks (suc row) (drop (suc row) (suffix_rows ks)) (drop (row_record * suc row) file))
+pub row_told : {ks at : List Keyword} {file best : List ℕ} {row i z : ℕ} {w : Verdict}
+    → at ≡ ks
+    → At at row i z
+    → best ≡ record_of at (suffix_at at i z)
+    → w ≡ fault_of row best (row_record_at file row)
+    → RowsPassed ks file row
+    → RowTold ks file row w
+row_told {ks} {row = row} {i = i} {z = z} same there made fault so =
+    let here : At ks row i z = rw same at there in
+    record {
+      passed = so;
+      within = omega (arith, here.within, suffix_rows-length ks);
+      fault = rw (here.names, ← same, ← made) fault;
+      short = rw here.names (omega (arith, suffix-length here.walked.suffix, suffix_short here.walked.suffix));
+    }
+
+module _ {ks : List Keyword} {file : List ℕ} {row : ℕ} {w : Verdict} (told : RowTold ks file row w) where
+  step : row_verdicts ks 0 (suffix_rows ks) file ≡ or_else w (row_verdicts ks (suc row) (drop (suc row) (suffix_rows ks)) (drop (row_record * suc row) file))
   unfolding row_verdicts
   step =
       let f : List ℕ = drop (row_record * row) file in
       let behind : row_record * row + row_record ≡ row_record * suc row = omega arith in
       let rest : Verdict = row_verdicts ks (suc row) (drop (suc row) (suffix_rows ks)) (drop (row_record * suc row) file) in
       told.passed.left
-      ∙ rw (drop-cons (suffix_rows ks) row [] told.within, told.names, drop-drop row_record (row_record * row) file, behind)
-      (decided (same (take 16 f) (named v)) (faulty (inner ks v) (get_or f 16 0) || faulty (edge ks v) (get_or f 17 0)) row rest
-      ∙ rw (told.fault, fault_is ks v f told.short))
+      ∙ rw (drop-cons (suffix_rows ks) row [] told.within, drop-drop row_record (row_record * row) file, behind, told.fault)
+      (fault_is ks row (get_or (suffix_rows ks) row []) f rest told.short)
 
-  pub rows_name : n ≡ 11 → row_verdicts ks 0 (suffix_rows ks) file ≡ refuse 11 row
-  unfolding fault_verdict or_else
-  rows_name e = step ∙ rw e
+  pub rows_stop : {n p : ℕ} → w ≡ refuse n p → refuse n p ≡ row_verdicts ks 0 (suffix_rows ks) file
+  unfolding or_else
+  rows_stop e = sym (step ∙ rw e)
 
-  pub rows_number : n ≡ 12 → row_verdicts ks 0 (suffix_rows ks) file ≡ refuse 12 row
-  unfolding fault_verdict or_else
-  rows_number e = step ∙ rw e
+  pub rows_more : w ≡ pass → RowsPassed ks file (row + 1)
+  unfolding or_else
+  rows_more e = record { left = rw (add-one row) (step ∙ rw e) }
 
-  module _ (right : n ≡ 11 → ⊥) (good : n ≡ 12 → ⊥) where
-    pub rows_more : RowsPassed ks file (row + 1)
-    unfolding fault_verdict or_else
-    rows_more = record { left = rw (add-one row) (step ∙ rw (ne_eqb n 11 right, ne_eqb n 12 good)) }
-
-    pub rows_all : length (suffix_rows ks) ≤ row + 1 → row_verdicts ks 0 (suffix_rows ks) file ≡ pass
-    unfolding row_verdicts
-    rows_all h = rows_more.left ∙ rw (drop_of_length-le (suffix_rows ks) h)
-
--- no refusal of a row has the number 0
-pub rows-numbered : (ks : List Keyword) (i : ℕ) (vs : List (List ℕ)) (f : List ℕ) → Numbered (row_verdicts ks i vs f)
+-- all rows passed
+pub rows_all : {ks : List Keyword} {file : List ℕ} {row : ℕ} → RowsPassed ks file row → length (suffix_rows ks) ≤ row → pass ≡ row_verdicts ks 0 (suffix_rows ks) file
 unfolding row_verdicts
-rows-numbered ks i [] f = λ p e. absurd (refuse_no_pass (sym e))
-rows-numbered ks i (v ∷ vs) f =
-    numbered_both _ _ (numbered_if _ 11 i (omega arith))
-    (numbered_both _ _ (numbered_if _ 12 i (omega arith)) (rows-numbered ks (suc i) vs (drop row_record f)))
+rows_all {ks} so h = sym (so.left ∙ rw (drop_of_length-le (suffix_rows ks) h))

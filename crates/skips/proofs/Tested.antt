@@ -1,6 +1,6 @@
 -- The tests of a table in their order: the first that shows a fault decides.
 use Prim.Native.Nat.{ℕ, ◌*◌}
-use mathlib.Core.Path.{◌≡◌, sym, ◌∙◌, ap}
+use mathlib.Core.Path.{◌≡◌, sym, ◌∙◌}
 use mathlib.Core.List.{List}
 use lib.ListN.{length}
 use borrow.Author.Tests.{eq-eqb, ne_eqb}
@@ -9,8 +9,6 @@ use Rattle.rules.specs.sets.Sets.{Keyword}
 use Rattle.rules.specs.rows.Rows.{backward, rows_of}
 use Rattle.rules.specs.skips.Skips.{suffix_rows}
 use Rattle.rules.specs.answers.Refusals.{pass, refuse, refuse_if, or_else, row_verdicts, far_verdicts, table_verdict}
-use Rattle.rules.specs.answers.Answers.{Told, told_count}
-use Rattle.rules.specs.answers.Promises.{answer_or, rows_told}
 use Rattle.rules.proofs.skips.Tables.{suffix_rows-length}
 
 module _ (ks : List Keyword) (rowf bytef : List ℕ) (rows : ℕ) (counted : rows ≡ length (rows_of backward ks)) where
@@ -31,16 +29,6 @@ module _ (ks : List Keyword) (rowf bytef : List ℕ) (rows : ℕ) (counted : row
       unfolding table_verdict or_else refuse_if
       table_bytes h = rw (count, eq-eqb (length rowf) (row_record * rows) sized, passed, ne_eqb (length bytef) byte_file_size h)
 
-      fars : length bytef ≡ byte_file_size → far_verdicts ks byte_file_size 0 bytef ≡ table_verdict ks rowf bytef
+      pub table_fars : length bytef ≡ byte_file_size → far_verdicts ks byte_file_size 0 bytef ≡ table_verdict ks rowf bytef
       unfolding table_verdict or_else refuse_if
-      fars h = rw (count, eq-eqb (length rowf) (row_record * rows) sized, passed, eq-eqb (length bytef) byte_file_size h)
-
-      told : told_count rows ≡ rows_told ks
-      unfolding rows_told
-      told = ap told_count counted
-
-      pub table_fars : length bytef ≡ byte_file_size
-          → answer_or (told_count rows) (far_verdicts ks byte_file_size 0 bytef)
-          ≡ answer_or (rows_told ks) (table_verdict ks rowf bytef)
-      table_fars h =
-          ap (λ (a : Told). answer_or a (far_verdicts ks byte_file_size 0 bytef)) told ∙ ap (answer_or (rows_told ks)) (fars h)
+      table_fars h = rw (count, eq-eqb (length rowf) (row_record * rows) sized, passed, eq-eqb (length bytef) byte_file_size h)

@@ -1,41 +1,44 @@
--- The byte file is written number by number: each is the table's at the place's byte and depth.
+-- The byte file is written byte by byte: each byte's sixteen numbers are the table's.
 use Prim.Native.Nat.{ℕ, ◌+◌, ◌*◌, ◌/◌, ◌%◌, ◌≤◌, ◌<◌}
 use native.Mathlib.Omega.{arith}
-use native.Mathlib.Numerals.{add-one}
-use mathlib.Core.Path.{◌≡◌, sym, ◌∙◌, ap}
-use mathlib.Core.List.{List, [], ◌∷◌, ◌++◌}
-use lib.ListN.{length, take, set, get_or, length-take}
-use lib.Seq.{take-suc, take_all}
-use Rattle.rules.specs.sets.Limits.{byte_file_size, depths}
+use native.Mathlib.Nat.{zero-add}
+use mathlib.Core.Path.{◌≡◌, ◌∙◌}
+use mathlib.Core.List.{List, [], map}
+use lib.ListN.{length, get_or, length-map}
+use Rattle.rules.specs.sets.Limits.{byte_file_size, depths, opcodes}
 use Rattle.rules.specs.sets.Sets.{Keyword}
 use Rattle.rules.specs.scans.Hits.{over}
-use Rattle.rules.specs.skips.Skips.{far, byte_file}
-use Rattle.rules.proofs.scans.Buffers.{over_none, over_more}
-use Rattle.rules.proofs.skips.Tables.{byte_file-length, byte_file_at}
+use Rattle.rules.specs.skips.Skips.{far, count, byte_file}
+use Rattle.rules.proofs.skips.Tables.{count-length, count_at}
 use Rattle.skips.specs.Fars.{far_table}
-use Rattle.skips.proofs.FarTable.{far_table_at}
+use Rattle.skips.specs.Records.{put_at}
+use Rattle.skips.proofs.Buffers.{Laid, laid_none, laid_more, laid_all}
+use Rattle.skips.proofs.FarTable.{far_table_row, far_table_at}
 
 -- the number at a place
 pub table_place : (ks : List Keyword) (p : ℕ) → p < byte_file_size → get_or (get_or (far_table ks) (p / depths) []) (p % depths) 0 ≡ far ks (p / depths) (p % depths)
 table_place ks p h = far_table_at ks (p / depths) (p % depths) (omega arith) (omega arith)
 
--- a buffer with the first p numbers of the byte file at its front
-abbrev pub written : List Keyword → List ℕ → ℕ → List ℕ
-written ks old p = over (take p (byte_file ks)) old
+-- a byte's numbers, and those of the bytes before a over the front of a buffer
+abbrev pub numbers_of : List Keyword → ℕ → List ℕ
+numbers_of ks a = map (far ks a) (count 0 depths)
 
-pub written_none : (ks : List Keyword) (old : List ℕ) → old ≡ written ks old 0
-written_none ks old = sym (over_none old)
+abbrev pub BytesLaid : List Keyword → List ℕ → List ℕ → ℕ → Type 0
+BytesLaid ks = Laid (numbers_of ks) (count 0 opcodes) depths
 
-module _ (ks : List Keyword) (old : List ℕ) (room : byte_file_size ≤ length old) where
-  pub written_more : (p : ℕ) → p < byte_file_size → set (written ks old p) p (get_or (get_or (far_table ks) (p / depths) []) (p % depths) 0) ≡ written ks old (p + 1)
-  written_more p h =
-      let file : List ℕ = byte_file ks in
-      let size : length (take p file) ≡ p = omega (arith, length-take p file, byte_file-length ks) in
-      let place : 16 * (p / depths) + p % depths ≡ p = omega arith in
-      let byte : get_or file p 0 ≡ far ks (p / depths) (p % depths) = rw place at (byte_file_at ks (p / depths) (p % depths) (omega arith) (omega arith)) in
-      let more : over (take p file ++ (get_or file p 0 ∷ [])) old ≡ set (over (take p file) old) (length (take p file)) (get_or file p 0) =
-      over_more (take p file) old (get_or file p 0) (omega arith) in
-      rw (table_place ks p h, ← byte, add-one p, take-suc file p 0 (omega (arith, byte_file-length ks))) (sym (more ∙ rw size))
+pub bytes_laid_none : (ks : List Keyword) (old : List ℕ) → byte_file_size ≤ length old → BytesLaid ks old old 0
+bytes_laid_none ks old h = laid_none (numbers_of ks) (count 0 opcodes) depths old (omega (arith, count-length 0 opcodes))
 
-  pub written_all : (p : ℕ) → byte_file_size ≤ p → written ks old p ≡ over (byte_file ks) old
-  written_all p h = ap (λ (l : List ℕ). over l old) (take_all p (byte_file ks) (omega (arith, byte_file-length ks)))
+pub bytes_laid_more : (ks : List Keyword) {old before buffer : List ℕ} (a : ℕ) → a < opcodes
+    → buffer ≡ put_at before (depths * a) (get_or (far_table ks) a [])
+    → BytesLaid ks old before a
+    → BytesLaid ks old buffer (a + 1)
+bytes_laid_more ks a h put so =
+    rw (put, far_table_row ks a h)
+    (laid_more so 0 a (omega (arith, count-length 0 opcodes)) (count_at 0 opcodes a 0 h ∙ zero-add a) (length-map (count 0 depths) (far ks a) ∙ count-length 0 depths))
+
+pub bytes_laid_all : (ks : List Keyword) {old buffer : List ℕ} {n : ℕ} → BytesLaid ks old buffer n
+    → opcodes ≤ n
+    → buffer ≡ over (byte_file ks) old
+unfolding byte_file
+bytes_laid_all ks so h = laid_all so (omega (arith, count-length 0 opcodes))

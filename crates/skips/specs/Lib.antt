@@ -1,5 +1,6 @@
--- What the contracts of this crate say beyond `rules`: suffixes as parts of keywords, the far table as a value, what
--- the tests of a table begin with.
+-- What the contracts of this crate say beyond `rules`: records of one size in a buffer, suffixes as parts of keywords,
+-- the far table as a value, what the tests of a table ask of a record.
+pub mod Records
 pub mod Suffixes
 pub mod Fars
 pub mod Judging

@@ -1,15 +1,13 @@
 -- A backward row as the last bytes of a keyword, and its record.
-use Rattle.std.specs.Prelude.{ℕ, ◌+◌, ◌-◌, ◌*◌, ◌≤◌, ◌<◌, ◌≡◌, Bool, List, [], ◌++◌, length, take, drop, get_or}
-use Rattle.rules.specs.sets.Limits.{row_record}
+use Rattle.std.specs.Prelude.{ℕ, ◌+◌, ◌-◌, ◌≤◌, ◌<◌, ◌≡◌, Bool, List, [], length, take, drop, get_or}
+use denote.Ref.{Bor}
+use Rattle.rules.specs.sets.Limits.{depths}
 use Rattle.rules.specs.strings.Strings.{any}
 use Rattle.rules.specs.sets.Sets.{Keyword, shortest}
 use Rattle.rules.specs.rows.Rows.{backward, rows_of}
-use Rattle.rules.specs.skips.Skips.{inner, edge, holds_before, ends_within, suffix_rows}
+use Rattle.rules.specs.skips.Skips.{least, suffix_rows}
 use Rattle.rules.specs.Beside.{Sound, nth, most_common}
 use Rattle.words.specs.Read.{earlier, read_at}
-use Rattle.skips.specs.declared.suffixes.Place.{Place}
-use Rattle.skips.specs.declared.numbers.Number.{Number}
-use Rattle.skips.specs.declared.numbers.Number.TheVariants.{Inner, Edge}
 
 -- the last z bytes of the keyword at place i, in trace order
 unfoldable pub suffix_at : List Keyword → ℕ → ℕ → List ℕ
@@ -25,22 +23,23 @@ pub record Suffix (ks : List Keyword) (i z : ℕ) : Type 0 where
   pub listed : Listed ks i
   pub short : z ≤ length (nth ks i).word
 
--- whether a keyword w stops the search for a number of the suffix v at the distance n: inner's test or edge's; whether
--- some keyword does; and the number, the least distance at which one does
-unfoldable pub stops_at : Number → List ℕ → ℕ → List ℕ → Bool
-stops_at Inner = holds_before
-stops_at Edge = ends_within
+-- a test of a suffix v, a distance n and a keyword w: whether the keyword stops the search for a number at n
+abbrev pub Test : Type 0
+Test = List ℕ → ℕ → List ℕ → Bool
 
-unfoldable pub some_stops : Number → List Keyword → List ℕ → ℕ → Bool
-some_stops which ks v n = any (λ (k : Keyword). stops_at which v n k.word) ks
+-- a function may be called at each distance that a search comes to, and it answers that test
+pub record Asked (pre : Bor (List ℕ) → Bor (List ℕ) → ℕ → Type 0) : Type 0 where
+  pub may : (w v : Bor (List ℕ)) (n : ℕ) → n < depths → pre w v n
 
-unfoldable pub largest_of : Number → List Keyword → List ℕ → ℕ
-largest_of Inner = inner
-largest_of Edge = edge
+pub record Answers (post : Bor (List ℕ) → Bor (List ℕ) → ℕ → Bool → Type 0) (test : Test) : Type 0 where
+  pub says : (w v : Bor (List ℕ)) (n : ℕ) (b : Bool) → post w v n b → b ≡ test v.now n w.now
 
--- a part of a buffer written over from a place on
-unfoldable pub put_at : List ℕ → ℕ → List ℕ → List ℕ
-put_at old place new = take place old ++ new ++ drop (place + length new) old
+-- whether some keyword stops the search; and the number, the least distance at which one does, capped
+unfoldable pub some_stops : Test → List Keyword → List ℕ → ℕ → Bool
+some_stops test ks v n = any (λ (k : Keyword). test v n k.word) ks
+
+unfoldable pub largest_of : Test → List Keyword → List ℕ → ℕ
+largest_of test ks v = least (shortest ks) (some_stops test ks v)
 
 -- how much of the keyword at place i, read backward, an earlier one begins with too, and how many rows the earlier
 -- ones have
@@ -57,14 +56,7 @@ pub record Walked (ks : List Keyword) (rows i z : ℕ) : Type 0 where
   pub counted : rows + shared_at ks i ≡ rows_before ks i + z
 
 -- the backward row of that number is this suffix
-pub record At (ks : List Keyword) (row : ℕ) (at : Place) : Type 0 where
-  pub walked : Walked ks (row + 1) at.keyword at.depth
+pub record At (ks : List Keyword) (row i z : ℕ) : Type 0 where
+  pub walked : Walked ks (row + 1) i z
   pub within : row < length (rows_of backward ks)
-  pub names : get_or (suffix_rows ks) row [] ≡ suffix_at ks at.keyword at.depth
-
--- before the row file is put: room for it
-pub record PutRows (ks : List Keyword) (m rows : ℕ) (buffer : List ℕ) : Type 0 where
-  pub sound : Sound ks
-  pub shortest_is : m ≡ shortest ks
-  pub counted : rows ≡ length (rows_of backward ks)
-  pub room : row_record * rows ≤ length buffer
+  pub names : get_or (suffix_rows ks) row [] ≡ suffix_at ks i z

@@ -1,119 +1,86 @@
 // The tests of a table, 10 to 14.
-ghost use Rattle.std.specs.Prelude.{◌≡◌, ◌+◌, ◌*◌, ◌≤◌, length, take, drop};
-ghost use Rattle.rules.specs.sets.Limits.{row_record, byte_file_size};
-ghost use Rattle.rules.specs.rows.Rows.{backward, rows_of};
+ghost use Rattle.std.specs.Prelude.{◌≡◌, ◌+◌, ◌*◌, ◌≤◌, ◌<◌, length, take, drop};
+ghost use Rattle.rules.specs.sets.Limits.{row_record, byte_file_size, most_rows};
 ghost use Rattle.rules.specs.skips.Skips.{suffix_rows};
-ghost use Rattle.rules.specs.answers.Refusals.{row_verdicts, far_verdicts, table_verdict};
-ghost use Rattle.rules.specs.answers.Answers.{told_count, told_counted};
-ghost use Rattle.rules.specs.answers.Promises.{answer_or, rows_told};
-ghost use Rattle.rules.specs.Beside.{Sound};
-ghost use Rattle.words.specs.Items.{Words, keywords_in};
-ghost use Rattle.skips.specs.Judging.{Judging, fault_of};
+ghost use Rattle.rules.specs.answers.Refusals.{faulty, row_verdicts, far_verdicts, table_verdict};
+ghost use Rattle.rules.specs.answers.Promises.{verdict_of};
+ghost use Rattle.words.specs.Items.{keywords_in};
+ghost use Rattle.skips.specs.Judging.{fault_of};
 
+use crate::Table;
 use crate::fars::far_numbers;
+use crate::measured::Measured;
 use crate::suffixes::{first, next, record_of};
-use rules::{BYTES, Counted, DEPTHS, ROW, Refusal};
-use words::shortest_of;
+use rules::{BYTES, DEPTHS, ROW, Refusal};
 
-// The fault of a record of the row file beside the best one, which has the largest numbers: 0 for none, 11 where it
-// names another suffix, 12 where a number is 0 or above the largest.
-fn fault(file: &[u8], row: usize, best: [u8; ROW]) -> u16
-    requires { row_record * row + row_record ≤ length file.now }
-    ensures { result ≡ fault_of best (take row_record (drop (row_record * row) file.now)) }
+// Whether a number of a file is 0 or above the largest.
+fn faulty(largest: u8, n: u8) -> bool
+    ensures { result ≡ faulty largest n }
+{
+    n == 0 || largest < n
+}
+
+// The fault of a row's record in the row file beside the best one, which has the largest numbers: it names another
+// suffix, or a number is 0 or above the largest.
+fn fault(file: &[u8], row: usize, best: [u8; ROW]) -> Result<(), Refusal>
+    requires { (row_record * row + row_record ≤ length file.now) × (row < most_rows) }
+    ensures { verdict_of result
+        ≡ fault_of row best (take row_record (drop (row_record * row) file.now)) }
 {
     let from = ROW * row;
-    let mut k = 0;
-    while k < 16 {
-        if file[from + k] != best[k] {
-            return 11;
-        }
-        k += 1;
+    let found = &file[from..from + ROW];
+    if found[..16] != best[..16] {
+        return Err(Refusal::RowNamesAnother { row: row as u16 });
     }
-    let inner = file[from + 16];
-    let edge = file[from + 17];
-    if inner == 0 {
-        return 12;
+    if faulty(best[16], found[16]) || faulty(best[17], found[17]) {
+        return Err(Refusal::RowNumber { row: row as u16 });
     }
-    if best[16] < inner {
-        return 12;
-    }
-    if edge == 0 {
-        return 12;
-    }
-    if best[17] < edge {
-        return 12;
-    }
-    0
+    Ok(())
 }
 
 // The tests 11 and 12 of a row file of the right size.
-fn judge_rows(words: &[u16], rows: usize, m: usize, file: &[u8]) -> Counted
-    requires { Words words.now
-        × Judging (keywords_in words.now) rows m
-        × (length file.now ≡ row_record * rows) }
-    ensures { told_counted result ≡ answer_or (told_count rows)
-        (row_verdicts (keywords_in words.now) 0 (suffix_rows (keywords_in words.now)) file.now) }
+fn judge_rows(set: Measured<'_>, file: &[u8]) -> Result<(), Refusal>
+    requires { length file.now ≡ row_record * set.rows }
+    ensures { verdict_of result ≡ row_verdicts (keywords_in set.entry.words.list.now) 0
+        (suffix_rows (keywords_in set.entry.words.list.now)) file.now }
 {
-    let mut at = first();
-    let mut row = 0;
-    loop {
-        let best = record_of(words, at, m);
-        let number = fault(file, row, best);
-        if number == 11 {
-            return Counted::Refused(Refusal::RowNamesAnother { row: row as u16 });
-        }
-        if number == 12 {
-            return Counted::Refused(Refusal::RowNumber { row: row as u16 });
-        }
-        if row + 1 == rows {
-            return Counted::Number(rows as u16);
-        }
-        at = next(words, at, row);
-        row += 1;
+    let mut row = first(set);
+    fault(file, row.number, record_of(row))?;
+    while row.number + 1 < set.rows {
+        row = next(row);
+        fault(file, row.number, record_of(row))?;
     }
+    Ok(())
 }
 
 // Test 14 of a byte file of the right size.
-fn judge_bytes(words: &[u16], rows: usize, m: usize, file: &[u8]) -> Counted
-    requires { Words words.now
-        × Judging (keywords_in words.now) rows m
-        × (length file.now ≡ byte_file_size) }
-    ensures { told_counted result ≡ answer_or (told_count rows)
-        (far_verdicts (keywords_in words.now) byte_file_size 0 file.now) }
+fn judge_bytes(set: Measured<'_>, file: &[u8]) -> Result<(), Refusal>
+    requires { length file.now ≡ byte_file_size }
+    ensures { verdict_of result
+        ≡ far_verdicts (keywords_in set.entry.words.list.now) byte_file_size 0 file.now }
 {
-    let far = far_numbers(words, m);
-    let mut p = 0;
-    while p < BYTES {
-        let n = file[p];
-        if n == 0 {
-            return Counted::Refused(Refusal::FarNumber { place: p as u16 });
+    let far = far_numbers(set);
+    for (p, n) in file.iter().enumerate() {
+        if faulty(far[p / DEPTHS][p % DEPTHS], *n) {
+            return Err(Refusal::FarNumber { place: p as u16 });
         }
-        if far[p / DEPTHS][p % DEPTHS] < n {
-            return Counted::Refused(Refusal::FarNumber { place: p as u16 });
-        }
-        p += 1;
     }
-    Counted::Number(rows as u16)
+    Ok(())
 }
 
-// The tests 10 to 14 of a table for keywords that passed their own and have so many rows; where they pass, that number.
-pub(crate) fn judge(words: &[u16], rows: usize, row_file: &[u8], byte_file: &[u8]) -> Counted
-    requires { Words words.now
-        × Sound (keywords_in words.now)
-        × (rows ≡ length (rows_of backward (keywords_in words.now))) }
-    ensures { told_counted result ≡ answer_or (rows_told (keywords_in words.now))
-        (table_verdict (keywords_in words.now) row_file.now byte_file.now) }
+// The tests 10 to 14 of a table.
+pub(crate) fn judge(set: Measured<'_>, table: Table<'_>) -> Result<(), Refusal>
+    ensures { verdict_of result ≡ table_verdict (keywords_in set.entry.words.list.now)
+        table.entry.row_file.now table.entry.byte_file.now }
 {
-    if row_file.len() != ROW * rows {
-        return Counted::Refused(Refusal::RowFileSize { rows: rows as u16 });
+    if table.row_file.len() != ROW * set.rows {
+        return Err(Refusal::RowFileSize {
+            rows: set.rows as u16,
+        });
     }
-    let m = shortest_of(words);
-    let named = judge_rows(words, rows, m, row_file);
-    if let Counted::Refused(why) = named {
-        return Counted::Refused(why);
+    judge_rows(set, table.row_file)?;
+    if table.byte_file.len() != BYTES {
+        return Err(Refusal::ByteFileSize);
     }
-    if byte_file.len() != BYTES {
-        return Counted::Refused(Refusal::ByteFileSize);
-    }
-    judge_bytes(words, rows, m, byte_file)
+    judge_bytes(set, table.byte_file)
 }

@@ -2,23 +2,15 @@
 // suffix so that n of its bytes stand behind it. docs/SKIPS.md draws it.
 ghost use Rattle.std.specs.Prelude.{◌≡◌, ◌<◌};
 ghost use Rattle.rules.specs.sets.Limits.{depths};
-ghost use Rattle.rules.specs.sets.Sets.{shortest};
 ghost use Rattle.rules.specs.skips.Skips.{holds_before, ends_within};
-ghost use Rattle.rules.specs.Beside.{Sound};
-ghost use Rattle.words.specs.Items.{Words, keywords_in};
-ghost use Rattle.skips.specs.Suffixes.{stops_at, some_stops, largest_of};
+ghost use Rattle.words.specs.Items.{keywords_in};
+ghost use Rattle.skips.specs.Suffixes.{Test, Asked, Answers, some_stops, largest_of};
 
-use words::{count_of, ends_with, units_of};
-
-// The two numbers of a suffix.
-#[derive(Clone, Copy)]
-pub(crate) enum Number {
-    Inner,
-    Edge,
-}
+use crate::measured::Measured;
+use words::{Keywords, count_of, ends_with, item_at};
 
 // inner's test: the keyword has the suffix with exactly n bytes after it. Without those n bytes it ends with the suffix.
-fn holds_before(keyword: &[u16], suffix: &[u16], n: usize) -> bool
+pub(crate) fn holds_before(keyword: &[u16], suffix: &[u16], n: usize) -> bool
     requires { n < depths }
     ensures { result ≡ holds_before suffix.now n keyword.now }
 {
@@ -31,7 +23,7 @@ fn holds_before(keyword: &[u16], suffix: &[u16], n: usize) -> bool
 
 // edge's test: some string made of the suffix and n further bytes ends with the keyword. The n bytes may be all of it;
 // if not, the suffix ends with what stands before them.
-fn ends_within(keyword: &[u16], suffix: &[u16], n: usize) -> bool
+pub(crate) fn ends_within(keyword: &[u16], suffix: &[u16], n: usize) -> bool
     ensures { result ≡ ends_within suffix.now n keyword.now }
 {
     if keyword.len() <= n {
@@ -41,44 +33,41 @@ fn ends_within(keyword: &[u16], suffix: &[u16], n: usize) -> bool
     ends_with(suffix, &keyword[..front])
 }
 
-// Whether a keyword stops the search for a number at the distance n.
-fn stops(keyword: &[u16], suffix: &[u16], n: usize, which: Number) -> bool
-    requires { n < depths }
-    ensures { result ≡ stops_at which suffix.now n keyword.now }
+// Whether some keyword stops the search for a number at the distance n.
+fn some_stops<F: Fn(&[u16], &[u16], usize) -> bool>(
+    words: Keywords<'_>,
+    suffix: &[u16],
+    n: usize,
+    stops: F,
+) -> bool
+    requires { (n < depths) × Asked (F.pre stops) }
+    ensures { (test : Test) → Answers (F.post stops) test
+        → result ≡ some_stops test (keywords_in words.entry.list.now) suffix.now n }
 {
-    match which {
-        Number::Inner => holds_before(keyword, suffix, n),
-        Number::Edge => ends_within(keyword, suffix, n),
-    }
-}
-
-// Whether some keyword does.
-fn some_stops(words: &[u16], suffix: &[u16], n: usize, which: Number) -> bool
-    requires { Words words.now × (n < depths) }
-    ensures { result ≡ some_stops which (keywords_in words.now) suffix.now n }
-{
-    let count = count_of(words);
-    let mut k = 0;
-    while k < count {
-        if stops(units_of(words, k), suffix, n, which) {
+    for k in 0..count_of(words.list) {
+        if stops(item_at(words.list, k).units, suffix, n) {
             return true;
         }
-        k += 1;
     }
     false
 }
 
-// The number: the least n from 1 up at which some keyword stops the search, capped at m, the shortest keyword's length.
-pub(crate) fn largest(words: &[u16], suffix: &[u16], m: usize, which: Number) -> usize
-    requires { Words words.now × Sound (keywords_in words.now) × (m ≡ shortest (keywords_in words.now)) }
-    ensures { (result ≡ largest_of which (keywords_in words.now) suffix.now) × (result < depths) }
+// The number of a test: the least n from 1 up at which some keyword stops the search, capped at the shortest keyword's
+// length.
+pub(crate) fn largest<F: Fn(&[u16], &[u16], usize) -> bool + Copy>(
+    set: Measured<'_>,
+    suffix: &[u16],
+    stops: F,
+) -> usize
+    requires { Asked (F.pre stops) }
+    ensures { (result < depths)
+        × ((test : Test) → Answers (F.post stops) test
+        → result ≡ largest_of test (keywords_in set.entry.words.list.now) suffix.now) }
 {
-    let mut n = 1;
-    while n < m {
-        if some_stops(words, suffix, n, which) {
+    for n in 1..set.cap {
+        if some_stops(set.words, suffix, n, stops) {
             return n;
         }
-        n += 1;
     }
-    n
+    set.cap
 }

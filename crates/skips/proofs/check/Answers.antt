@@ -1,36 +1,12 @@
--- The set's own tests decide; where they pass, the job is done for its words.
-use mathlib.Core.Path.{sym}
-use lib.Seq.{length-take-le}
-use Rattle.rules.specs.declared.Counted.{Counted}
-use Rattle.sets.specs.Reading.{Read}
-use Rattle.sets.proofs.Opened.{opened, opened_room, refused}
+-- The set's own tests decide; where they pass, the job is done for its keywords.
+use Rattle.std.proofs.lemmas.Result.{err_from_is_err_and}
 use Rattle.skips.proofs.Outcomes.{check_read, check_unread}
 use Rattle.skips.proofs.check.Goals as goal
-use Rattle.skips.proofs.check.Goals.{In-Number, In-Refused}
 
--- what the reader answered: a refusal, or how many keywords
-unread : (c : In-Refused)
-    → Read c.args.set.now (Counted.Refused c.in-Refused.fault) c.read-found.new.words
-unread c = rw c.in-Refused.is at c.read-found.ensures
+pub returns-in_err-words : goal.returns-in_err-words
+returns-in_err-words c =
+    let p = err_from_is_err_and c.from_residual.result c.from_residual.ensures.1 in
+    rw (p.1, p.2) (check_unread c.args.set.now c.in_err-words.field-0.0 c.in_err-words.ensures)
 
-list_read : (c : In-Number)
-    → Read c.args.set.now (Counted.Number c.in-Number.count) c.read-found.new.words
-list_read c = rw c.in-Number.is at c.read-found.ensures
-
-pub slice_bounds-list-end : goal.slice_bounds-list-end
-slice_bounds-list-end c = opened_room _ _ (list_read (goal.at.slice_bounds-list-end c).In-Number)
-
-pub slice_bounds-check_words-end : goal.slice_bounds-check_words-end
-slice_bounds-check_words-end c = sym (length-take-le _ _ (opened_room _ _ (list_read (goal.at.slice_bounds-check_words-end c).In-Number)))
-
-pub check_words-requires : goal.check_words-requires
-check_words-requires c =
-    let so = opened _ _ (list_read (goal.at.check_words-requires c).In-Number) in
-    (so.words, so.sound)
-
-pub returns-in-Refused : goal.returns-in-Refused
-returns-in-Refused c = check_unread _ c.in-Refused.fault (refused _ c.in-Refused.fault (unread (goal.at.returns-in-Refused c).In-Refused))
-
-pub returns-in-Number : goal.returns-in-Number
-returns-in-Number c =
-    check_read (opened _ _ (list_read (goal.at.returns-in-Number c).In-Number)) c.check_words.ensures
+pub returns : goal.returns
+returns c = check_read c.args.set.now c.in_ok-words.ensures c.check_words.ensures

@@ -1,44 +1,29 @@
--- The bytes passed name the row, so the first that does not is the fault, and else the first number that is not
--- allowed.
-use borrow.Author.Rules.{rules}
-use Rattle.skips.proofs.Compared.{alike_none, alike_more, alike_stop, fault-inner, fault-edge, fault_none, faulty_zero, faulty_above, faulty_none}
-use Rattle.rules.specs.sets.Limits.{row_record}
-use mathlib.Core.Path.{◌≡◌}
-use lib.ListN.{length}
+-- The first sixteen bytes name the row, and each of the two numbers is tested, in the definition's order.
+use mathlib.Core.Path.{sym, ◌∙◌}
+use Rattle.skips.proofs.Compared.{cut, fault_name, fault-inner, fault-edge, fault_none}
 use Rattle.skips.proofs.judge.fault.Goals as goal
-use Rattle.skips.proofs.judge.fault.Goals.{Start}
+use Rattle.skips.proofs.judge.fault.Goals.{then-faulty-via-then-faulty, then-faulty-via-else-faulty+then-faulty-2}
 
--- the record has eighteen numbers
-sized : (c : Start) → length c.args.best ≡ row_record
-sized c = search rules
+pub returns-then-ne : goal.returns-then-ne
+returns-then-ne c =
+    let a = c.args in
+    fault_name a.row a.best _ (rw (cut a.file.now a.row) at (sym c.if-ne.true ∙ c.ne.ensures))
 
-pub loop-k-init : goal.loop-k-init
-loop-k-init c = alike_none c.args.file.now c.args.row c.args.best c.requires (sized (goal.at.loop-k-init c).Start)
-
-pub returns-then-file-from : goal.returns-then-file-from
-returns-then-file-from c = alike_stop c.loop-k.invariant c.loop-k-test.true c.if-file-from.true
-
-pub loop-k-preserved : goal.loop-k-preserved
-loop-k-preserved c = alike_more c.loop-k.invariant c.loop-k-test.true c.if-file-from.false
-
-pub returns-then-inner-eq0 : goal.returns-then-inner-eq0
-returns-then-inner-eq0 c =
-    fault-inner c.loop-k.invariant c.loop-k-test.false (faulty_zero _ _ c.if-inner-eq0.true)
-
-pub returns-then-best-inner : goal.returns-then-best-inner
-returns-then-best-inner c =
-    fault-inner c.loop-k.invariant c.loop-k-test.false (faulty_above _ _ c.if-best-inner.true)
-
-pub returns-then-edge-eq0 : goal.returns-then-edge-eq0
-returns-then-edge-eq0 c =
-    fault-edge c.loop-k.invariant c.loop-k-test.false (faulty_zero _ _ c.if-edge-eq0.true)
-
-pub returns-then-best-edge : goal.returns-then-best-edge
-returns-then-best-edge c =
-    fault-edge c.loop-k.invariant c.loop-k-test.false (faulty_above _ _ c.if-best-edge.true)
+pub returns-then-faulty : goal.returns-then-faulty
+returns-then-faulty c =
+    let a = c.args in
+    let named = rw (cut a.file.now a.row) at (sym c.if-ne.false ∙ c.ne.ensures) in
+    elim c.then-faulty.branch [
+      | then-faulty-via-then-faulty w ↦
+          fault-inner a.row a.best _ named (rw (cut a.file.now a.row) at (sym w.if-faulty.true ∙ c.faulty.ensures))
+      | then-faulty-via-else-faulty+then-faulty-2 w ↦
+          fault-edge a.row a.best _ named (rw (cut a.file.now a.row) at (sym w.if-faulty-2.true ∙ w.faulty-else-faulty.ensures))
+    ]
 
 pub returns : goal.returns
 returns c =
-    fault_none c.loop-k.invariant c.loop-k-test.false
-    (faulty_none _ _ c.if-inner-eq0.false c.if-best-inner.false)
-    (faulty_none _ _ c.if-edge-eq0.false c.if-best-edge.false)
+    let a = c.args in
+    fault_none a.row a.best _
+    (rw (cut a.file.now a.row) at (sym c.if-ne.false ∙ c.ne.ensures))
+    (rw (cut a.file.now a.row) at (sym c.if-faulty.false ∙ c.faulty.ensures))
+    (rw (cut a.file.now a.row) at (sym c.if-faulty-2.false ∙ c.faulty-else-faulty.ensures))

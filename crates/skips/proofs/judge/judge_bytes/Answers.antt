@@ -1,49 +1,44 @@
 -- The numbers before place p passed, so the first that is 0 or above the table's decides.
-use Prim.Native.Nat.{◌/◌, ◌%◌}
+use Prim.Native.Nat.{ℕ, ◌/◌, ◌%◌, ◌<◌}
 use native.Mathlib.Omega.{arith}
-use mathlib.Core.Path.{◌≡◌}
-use mathlib.Core.List.{[]}
+use mathlib.Core.Path.{◌≡◌, sym, ◌∙◌, ap}
+use mathlib.Core.List.{List, []}
 use lib.ListN.{get_or}
-use Rattle.rules.specs.rows.Rows.{backward}
+use Rattle.rules.specs.sets.Limits.{byte_file_size}
 use Rattle.rules.specs.skips.Skips.{far}
-use Rattle.rules.proofs.rows.Most.{rows_few}
-use Rattle.rules.proofs.answers.Counts.{answer_refused, answer_passed}
+use Rattle.rules.specs.answers.Refusals.{faulty}
 use Rattle.words.specs.Items.{keywords_in}
 use Rattle.skips.proofs.Written.{table_place}
-use Rattle.skips.proofs.Compared.{faulty_zero, faulty_above, faulty_none}
 use Rattle.skips.proofs.Bytewise.{fars_none, fars_stop, fars_more, fars_all}
 use Rattle.skips.proofs.judge.judge_bytes.Goals as goal
-use Rattle.skips.proofs.judge.judge_bytes.Goals.{In-loop-p}
-
-pub far_numbers-far-requires : goal.far_numbers-far-requires
-far_numbers-far-requires c = let known = c.requires in (known.0, known.1.sound, known.1.shortest_is)
+use Rattle.skips.proofs.judge.judge_bytes.Goals.{After-faulty}
 
 pub loop-p-init : goal.loop-p-init
 loop-p-init c = fars_none _ _
 
-pub returns-then-n-eq0 : goal.returns-then-n-eq0
-returns-then-n-eq0 c =
-    answer_refused _ (fars_stop c.loop-p.invariant c.loop-p-test.true (faulty_zero _ _ c.if-n-eq0.true))
+-- the place in hand, and whether its number is allowed
+within : (c : After-faulty) → c.loop-p.p < byte_file_size
+within c = omega (arith, c.loop-p-test.true, c.requires)
 
--- the number that the table has at the place
-number : (c : In-loop-p)
-    → get_or (get_or c.far_numbers-far.result (c.loop-p.p / 16) []) (c.loop-p.p % 16) 0
-    ≡ far (keywords_in c.args.words.now) (c.loop-p.p / 16) (c.loop-p.p % 16)
-number c =
-    rw c.far_numbers-far.ensures
-    (table_place (keywords_in c.args.words.now) c.loop-p.p c.loop-p-test.true)
+tested : (c : After-faulty)
+    → c.faulty.result
+    ≡ faulty (far (keywords_in c.args.set.words.list.now) (c.loop-p.p / 16) (c.loop-p.p % 16)) (get_or c.args.file.now c.loop-p.p 0)
+tested c =
+    let p = c.loop-p.p in
+    let n = get_or c.args.file.now p 0 in
+    c.faulty.ensures
+    ∙ ap (λ (t : List (List ℕ)). faulty (get_or (get_or t (p / 16) []) (p % 16) 0) n) c.far_numbers-far.ensures
+    ∙ ap (λ (k : ℕ). faulty k n) (table_place (keywords_in c.args.set.words.list.now) p (within c))
 
-pub returns-then-far-p : goal.returns-then-far-p
-returns-then-far-p c =
-    answer_refused _ (fars_stop c.loop-p.invariant c.loop-p-test.true (faulty_above _ _ (rw (number (goal.at.returns-then-far-p c).In-loop-p) at c.if-far-p.true)))
+pub returns-then-faulty : goal.returns-then-faulty
+returns-then-faulty c =
+    let place = (goal.at.returns-then-faulty c).After-faulty in
+    sym (fars_stop c.loop-p.invariant (within place) (sym (tested place) ∙ c.if-faulty.true))
 
 pub loop-p-preserved : goal.loop-p-preserved
 loop-p-preserved c =
-    fars_more c.loop-p.invariant c.loop-p-test.true (faulty_none _ _ c.if-n-eq0.false (rw (number (goal.at.loop-p-preserved c).In-loop-p) at c.if-far-p.false))
-
-pub overflow_cast-result-2 : goal.overflow_cast-result-2
-overflow_cast-result-2 c =
-    omega (arith, c.requires.1.counted, rows_few backward (keywords_in c.args.words.now) c.requires.1.sound)
+    let place = (goal.at.loop-p-preserved c).After-faulty in
+    fars_more c.loop-p.invariant (within place) (sym (tested place) ∙ c.if-faulty.false)
 
 pub returns : goal.returns
-returns c = answer_passed _ (fars_all c.loop-p.invariant c.loop-p-test.false)
+returns c = sym (fars_all c.loop-p.invariant (omega (arith, c.loop-p-test.false, c.requires)))

@@ -1,93 +1,59 @@
 -- The rows before one passed, and the walk is at its suffix, so its record's fault decides.
-use Prim.Native.Nat.{◌<◌}
 use native.Mathlib.Omega.{arith}
-use Rattle.rules.specs.sets.Limits.{most_rows}
+use mathlib.Core.Path.{◌∙◌, ap}
+use Rattle.std.proofs.lemmas.Result.{err_from_is_err_and}
 use Rattle.rules.specs.rows.Rows.{backward}
+use Rattle.rules.specs.answers.Promises.{verdict_of}
 use Rattle.rules.proofs.rows.Most.{rows_few}
-use Rattle.rules.proofs.answers.Counts.{answer_refused, answer_passed}
-use Rattle.rules.proofs.skips.Tables.{suffix_rows-length, suffix_short}
+use Rattle.rules.proofs.skips.Tables.{suffix_rows-length}
 use Rattle.words.specs.Items.{keywords_in}
-use Rattle.skips.specs.Suffixes.{suffix_at}
-use Rattle.skips.proofs.Rowwise.{RowTold, rows_none, rows_name, rows_number, rows_more, rows_all}
+use Rattle.skips.proofs.Rowwise.{RowTold, rows_none, row_told, rows_stop, rows_more, rows_all}
 use Rattle.skips.proofs.judge.judge_rows.Goals as goal
-use Rattle.skips.proofs.judge.judge_rows.Goals.{After-fault-number, At-loop-at}
+use Rattle.skips.proofs.judge.judge_rows.Goals.{After-fault, After-fault-in-loop-row}
 
-pub loop-at-init : goal.loop-at-init
-loop-at-init c =
-    (c.first-at.ensures (keywords_in c.args.words.now) c.requires.1.sound, rows_none _ _)
+-- what is known of row 0 once its record is compared
+told_first : (c : After-fault)
+    → RowTold (keywords_in c.args.set.words.list.now) c.args.file.now c.first-row.result.number (verdict_of c.fault.result)
+told_first c =
+    let row = c.first-row in
+    row_told (ap keywords_in row.ensures.1) row.result.stands c.record_of.ensures c.fault.ensures (rw row.ensures.0 (rows_none _ _))
 
-pub record_of-best-requires : goal.record_of-best-requires
-record_of-best-requires c =
-    let known = c.requires in
-    (known.0, c.loop-at.invariant.0.walked.suffix, known.1.shortest_is)
+pub returns-in_err-fault : goal.returns-in_err-fault
+returns-in_err-fault c =
+    let p = err_from_is_err_and c.from_residual.result c.from_residual.ensures.1 in
+    let told = told_first (goal.at.returns-in_err-fault c).After-fault in
+    rw (p.1, p.2) (rows_stop told (ap verdict_of c.in_err-fault.was))
 
-pub fault-number-requires : goal.fault-number-requires
-fault-number-requires c =
-    let known = c.requires in
-    omega (arith, c.loop-at.invariant.0.within, known.1.counted, known.2)
+pub loop-row-init : goal.loop-row-init
+loop-row-init c =
+    (c.first-row.ensures.1, rows_more (told_first (goal.at.loop-row-init c).After-fault) (ap verdict_of c.in_ok-fault.was))
 
--- a row's number is small
-small : (c : At-loop-at) → c.loop-at.row < most_rows
-small c =
-    omega (arith, c.loop-at.invariant.0.within, rows_few backward (keywords_in c.args.words.now) c.requires.1.sound)
+pub fault-requires-in-loop-row : goal.fault-requires-in-loop-row
+fault-requires-in-loop-row c =
+    let set = c.args.set in
+    let low = c.loop-row-test.true in
+    let number = c.next-row.ensures.0 in
+    (omega (arith, low, number, c.requires), omega (arith, low, number, set.counted, rows_few backward (keywords_in set.words.list.now) set.words.sound))
 
--- what is known of the row once its record is compared
-told : (c : After-fault-number)
-    → RowTold
-    (keywords_in c.args.words.now)
-    c.args.file.now
-    c.loop-at.row
-    (suffix_at
-    (keywords_in c.args.words.now)
-    c.loop-at.at.keyword
-    c.loop-at.at.depth)
-    c.fault-number.result
+-- and of a later one
+told : (c : After-fault-in-loop-row)
+    → RowTold (keywords_in c.args.set.words.list.now) c.args.file.now c.next-row.result.number (verdict_of c.fault-in-loop-row.result)
 told c =
-    let at = c.loop-at.invariant.0 in
-    record {
-      passed = c.loop-at.invariant.1;
-      within = omega (arith, at.within, suffix_rows-length (keywords_in c.args.words.now));
-      names = at.names;
-      short = rw at.names at (suffix_short c.requires.1.sound c.loop-at.row at.within);
-      fault = rw c.record_of-best.ensures at c.fault-number.ensures;
-    }
+    let so = c.loop-row.invariant in
+    let row = c.next-row in
+    row_told (ap keywords_in (row.ensures.1 ∙ so.0)) row.result.stands c.record_of-in-loop-row.ensures c.fault-in-loop-row.ensures (rw row.ensures.0 so.1)
 
-pub overflow_cast-result : goal.overflow_cast-result
-overflow_cast-result c = omega (arith, small (goal.at.overflow_cast-result c).At-loop-at)
+pub returns-in_err-fault-2 : goal.returns-in_err-fault-2
+returns-in_err-fault-2 c =
+    let p = err_from_is_err_and c.from_residual-in_err-fault-2.result c.from_residual-in_err-fault-2.ensures.1 in
+    rw (p.1, p.2) (rows_stop (told (goal.at.returns-in_err-fault-2 c).After-fault-in-loop-row) (ap verdict_of c.in_err-fault-2.was))
 
-pub returns-then-number-eq11 : goal.returns-then-number-eq11
-returns-then-number-eq11 c = answer_refused _ (rows_name (told (goal.at.returns-then-number-eq11 c).After-fault-number) c.if-number-eq11.true)
+pub loop-row-preserved : goal.loop-row-preserved
+loop-row-preserved c =
+    (c.next-row.ensures.1 ∙ c.loop-row.invariant.0, rows_more (told (goal.at.loop-row-preserved c).After-fault-in-loop-row) (ap verdict_of c.in_ok-fault-2.was))
 
-pub overflow_cast-result-then-number-eq12 : goal.overflow_cast-result-then-number-eq12
-overflow_cast-result-then-number-eq12 c = omega (arith, small (goal.at.overflow_cast-result-then-number-eq12 c).At-loop-at)
-
-pub returns-then-number-eq12 : goal.returns-then-number-eq12
-returns-then-number-eq12 c = answer_refused _ (rows_number (told (goal.at.returns-then-number-eq12 c).After-fault-number) c.if-number-eq12.true)
-
-pub overflow_add-row : goal.overflow_add-row
-overflow_add-row c = omega (arith, small (goal.at.overflow_add-row c).At-loop-at)
-
-pub overflow_cast-result-then-row-rows : goal.overflow_cast-result-then-row-rows
-overflow_cast-result-then-row-rows c = omega (arith, small (goal.at.overflow_cast-result-then-row-rows c).At-loop-at)
-
-pub returns-then-row-rows : goal.returns-then-row-rows
-returns-then-row-rows c =
-    answer_passed _
-    (rows_all (told (goal.at.returns-then-row-rows c).After-fault-number) c.if-number-eq11.false c.if-number-eq12.false
-    (omega (arith, c.if-row-rows.true, c.requires.1.counted, suffix_rows-length (keywords_in c.args.words.now))))
-
-pub next-at-requires : goal.next-at-requires
-next-at-requires c =
-    let known = c.requires in
-    (known.0, c.loop-at.invariant.0, omega (arith, c.if-row-rows.false, c.loop-at.invariant.0.within, known.1.counted))
-
-pub overflow_add-row-in-loop-at : goal.overflow_add-row-in-loop-at
-overflow_add-row-in-loop-at c = omega (arith, small (goal.at.overflow_add-row-in-loop-at c).At-loop-at)
-
-pub loop-at-smaller : goal.loop-at-smaller
-loop-at-smaller c =
-    omega (arith, c.loop-at.invariant.0.within, c.requires.1.counted)
-
-pub loop-at-preserved : goal.loop-at-preserved
-loop-at-preserved c =
-    (c.next-at.ensures, rows_more (told (goal.at.loop-at-preserved c).After-fault-number) c.if-number-eq11.false c.if-number-eq12.false)
+pub returns : goal.returns
+returns c =
+    let set = c.args.set in
+    let ks = keywords_in set.words.list.now in
+    rows_all c.loop-row.invariant.1 (omega (arith, c.loop-row-test.false, set.counted, suffix_rows-length ks))

@@ -2,5 +2,5 @@
 use Rattle.skips.proofs.Places.{at_first}
 use Rattle.skips.proofs.suffixes.first.Goals as goal
 
-pub returns : goal.returns
-returns c = at_first
+pub invariant_of-result : goal.invariant_of-result
+invariant_of-result c = record { stands = at_first _ c.args.set.words.sound }

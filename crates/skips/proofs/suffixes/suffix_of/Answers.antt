@@ -10,15 +10,15 @@ use Rattle.skips.specs.Suffixes.{suffix_at}
 use Rattle.skips.proofs.Keywords.{listed_has}
 use Rattle.skips.proofs.suffixes.suffix_of.Goals as goal
 
-pub units_of-word-requires : goal.units_of-word-requires
-units_of-word-requires c = listed_has c.requires.0 c.requires.1.listed
+pub item_at-requires : goal.item_at-requires
+item_at-requires c = listed_has c.args.row.set.words.shaped c.args.row.stands.walked.suffix.listed
 
 pub overflow_sub-from : goal.overflow_sub-from
-overflow_sub-from c = omega (arith, c.requires.1.short, ap length c.units_of-word.ensures)
+overflow_sub-from c = omega (arith, c.args.row.stands.walked.suffix.short, ap length c.item_at.ensures.units)
 
 pub returns : goal.returns
 unfolding suffix_at
 returns c =
-    let w = (nth (keywords_in c.args.words.now) c.args.at.keyword).word in
-    let from = length w - c.args.at.depth in
-    rw c.units_of-word.ensures (take_all (length w - from) (drop from w) (omega (arith, length-drop from w)))
+    let w = (nth (keywords_in c.args.row.set.words.list.now) c.args.row.keyword).word in
+    let from = length w - c.args.row.depth in
+    rw c.item_at.ensures.units (take_all (length w - from) (drop from w) (omega (arith, length-drop from w)))
