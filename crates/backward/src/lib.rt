@@ -7,75 +7,56 @@ ghost use Rattle.rules.specs.scans.Hits.{Hit};
 ghost use Rattle.rules.specs.answers.Refusals.{entry_verdict};
 ghost use Rattle.rules.specs.answers.Answers.{told};
 ghost use Rattle.rules.specs.answers.Promises.{Backward, BackwardOf};
-ghost use Rattle.rules.specs.Beside.{Sound};
-ghost use Rattle.words.specs.Items.{Words, keywords_in};
+ghost use Rattle.words.specs.Items.{keywords_in};
 ghost use Rattle.hits.specs.Tallies.{Tallied};
 ghost use Rattle.backward.specs.Windowed.{Moving, move_in, Closing, window_of, Safe, Ran};
 
+mod met; // met.rt: the numbers of the keywords that a window has met
+
+use crate::met::Met;
 use hits::{Tally, list, nothing};
 use rows::cells::key;
 use rows::tree::ask;
-use rules::{Counted, DEPTHS, LONGEST, ROW, Scanned, Totals};
+use rules::{DEPTHS, ROW, Refusal, Totals};
 use sets::read;
-use skips::check_words;
-use words::{ITEM, LIST};
-
-// A byte as a number to count with.
-fn wide(b: u8) -> usize
-    ensures { (result ≡ b) × (result < 256) }
-{
-    b as usize
-}
+use skips::{Table, check_words};
+use words::{Keywords, LIST};
 
 // How far a window moves on that stopped at a row of some depth: by edge where no byte was left unread before it,
-// else by the lesser of edge and the greater of inner and far.
-fn move_on(
-    row_file: &[u8],
-    byte_file: &[u8],
-    row: usize,
-    depth: usize,
-    unread: usize,
-    missing: usize,
-) -> usize
-    requires { Moving row_file.now byte_file.now row depth missing }
-    ensures { (result ≡ move_in row_file.now byte_file.now row depth unread missing) × (result < 256) }
+// else by the lesser of edge and the greater of inner and the far number of the byte that has no child.
+#[tactic(auto, unfolding(rules::specs::skips::Runs::move_by))]
+fn move_on(table: Table<'_>, row: usize, depth: usize, missing: Option<u8>) -> usize
+    requires { Moving table.row_file.now table.byte_file.now row depth }
+    ensures { (result ≡ move_in table.entry.row_file.now table.entry.byte_file.now row depth missing)
+        × (result < 256) }
 {
-    let edge = wide(row_file[ROW * row + 17]);
-    if unread == 0 {
+    let edge = usize::from(table.row_file[ROW * row + 17]);
+    let Some(byte) = missing else {
         return edge;
-    }
-    let inner = wide(row_file[ROW * row + 16]);
-    let far = wide(byte_file[DEPTHS * missing + depth]);
-    let mut skip = inner;
-    if inner < far {
-        skip = far;
-    }
-    if edge < skip {
-        return edge;
-    }
-    skip
+    };
+    let inner = usize::from(table.row_file[ROW * row + 16]);
+    let far = usize::from(table.byte_file[DEPTHS * usize::from(byte) + depth]);
+    edge.min(inner.max(far))
 }
 
 // The hits of a window, longest first: the keywords that it met last are listed first.
 fn list_window(
-    words: &[u16],
+    words: Keywords<'_>,
     hits: &mut [u32],
     end: usize,
-    keys: [u16; LONGEST],
-    met: usize,
+    met: &[u16],
     tally: Tally,
 ) -> Tally
-    requires { (done : List Hit) × (old : List ℕ) × Closing words.now end keys met done old tally hits.old }
+    requires { (done : List Hit)
+        × (old : List ℕ)
+        × Closing words.list.now end met.now done old tally hits.old }
     ensures { (done : List Hit) (old : List ℕ)
-        → Closing words.now end keys met done old tally hits.old
-        → Tallied (done ++ window_of (keywords_in words.now) end keys met) old result hits.new }
+        → Closing words.entry.list.now end met.now done old tally hits.old
+        → Tallied (done ++ window_of (keywords_in words.entry.list.now) end met.now) old result hits.new }
 {
     let mut next = tally;
-    let mut left = met;
-    while 0 < left {
-        let number = keys[left - 1] as usize;
-        next = list(words, hits, end, number, next);
-        left -= 1;
+    for number in met.iter().rev() {
+        next = list(words, hits, end, usize::from(*number), next);
     }
     next
 }
@@ -88,87 +69,68 @@ pub(crate) struct Seen {
 }
 
 // The windows of a trace, one after the other.
-fn run(
-    ws: &[u16],
-    words: &[u16],
-    trace: &[u8],
-    row_file: &[u8],
-    byte_file: &[u8],
-    hits: &mut [u32],
-) -> Seen
-    requires { Safe words.now trace.now row_file.now byte_file.now ws.now }
-    ensures { Ran (keywords_in words.now) trace.now row_file.now byte_file.now
+fn run(ws: &[u16], words: Keywords<'_>, trace: &[u8], table: Table<'_>, hits: &mut [u32]) -> Seen
+    requires { Safe words.list.now trace.now table.row_file.now table.byte_file.now ws.now }
+    ensures { Ran (keywords_in words.entry.list.now) trace.now table.entry.row_file.now table.entry.byte_file.now
         hits.old
         result
         hits.new }
 {
     let mut tally = nothing();
     let mut questions = 0;
-    let mut keys = [0u16; LONGEST];
-    let mut end = wide(row_file[17]);
+    let mut met = Met::empty();
+    let mut end = usize::from(table.row_file[17]);
     while end <= trace.len() {
-        let mut met = 0;
-        let mut byte = 0;
-        let mut left = end;
+        met.clear();
+        let mut unread = &trace[..end];
         let mut reached = 0;
         let row = 'bytes: loop {
-            if left == 0 {
+            let Some((byte, rest)) = unread.split_last() else {
                 break 'bytes reached;
-            }
-            byte = wide(trace[left - 1]);
+            };
             questions += 1;
-            let found = ask(ws, reached, byte as u16);
-            let next = found.child;
-            if next == 0 {
+            let Some(next) = ask(ws, reached, u16::from(*byte)).child else {
                 break 'bytes reached;
-            }
+            };
             reached = next;
-            left -= 1;
-            let own = key(ws, reached);
-            if own != 0 {
-                keys[met] = (own - 1) as u16;
-                met += 1;
+            unread = rest;
+            if let Some(number) = key(ws, reached) {
+                met.push(number);
             }
         };
-        tally = list_window(words, hits, end, keys, met, tally);
-        end += move_on(row_file, byte_file, row, end - left, left, byte);
+        tally = list_window(words, hits, end, met.numbers(), tally);
+        end += move_on(table, row, end - unread.len(), unread.last().copied());
     }
     Seen { tally, questions }
 }
 
 // The backward scan of a trace for the keywords of a list, with a table: refusals 8 to 14, else what was found.
 fn scan_words(
-    words: &[u16],
+    words: Keywords<'_>,
     trace: &[u8],
-    row_file: &[u8],
-    byte_file: &[u8],
+    table: Table<'_>,
     workspace: &mut [u16],
     hits: &mut [u32],
-) -> Scanned
-    requires { Words words.now × Sound (keywords_in words.now) }
+) -> Result<Totals, Refusal>
     ensures { BackwardOf
-        (entry_verdict backward (keywords_in words.now) (length trace.now)
+        (entry_verdict backward (keywords_in words.entry.list.now) (length trace.now)
         (length workspace.old))
-        (keywords_in words.now)
+        (keywords_in words.entry.list.now)
         trace.now
-        row_file.now
-        byte_file.now
+        table.entry.row_file.now
+        table.entry.byte_file.now
         workspace.old
         hits.old
         (told result)
         workspace.new
         hits.new }
 {
-    let checked = check_words(words, trace.len(), row_file, byte_file, workspace);
-    if let Counted::Refused(fault) = checked {
-        return Scanned::Refused(fault);
-    }
-    let seen = run(workspace, words, trace, row_file, byte_file, hits);
-    let tally = seen.tally;
-    Scanned::Found(Totals {
-        count: tally.count as u32,
+    check_words(words, trace.len(), table, workspace)?;
+    let seen = run(workspace, words, trace, table, hits);
+    Ok(Totals {
+        count: seen.tally.count as u32,
         questions: seen.questions as u32,
-        energy: tally.energy,
+        energy: seen.tally.energy,
     })
 }
 
@@ -180,17 +142,15 @@ pub fn scan(
     byte_file: &[u8],
     workspace: &mut [u16],
     hits: &mut [u32],
-) -> Scanned
+) -> Result<Totals, Refusal>
     ensures { Backward set.now trace.now row_file.now byte_file.now
         workspace.old hits.old (told result) workspace.new hits.new }
 {
     let mut list = [0u16; LIST];
-    let found = read(set, &mut list);
-    match found {
-        Counted::Refused(fault) => Scanned::Refused(fault),
-        Counted::Number(count) => {
-            let end = ITEM * count as usize;
-            scan_words(&list[..end], trace, row_file, byte_file, workspace, hits)
-        }
-    }
+    let words = read(set, &mut list)?;
+    let table = Table {
+        row_file,
+        byte_file,
+    };
+    scan_words(words, trace, table, workspace, hits)
 }

@@ -1,36 +1,12 @@
 -- The set's own tests decide; where they pass, its words are scanned.
-use mathlib.Core.Path.{sym}
-use lib.Seq.{length-take-le}
-use Rattle.rules.specs.declared.Counted.{Counted}
-use Rattle.sets.specs.Reading.{Read}
-use Rattle.sets.proofs.Opened.{opened, opened_room, refused}
+use Rattle.std.proofs.lemmas.Result.{err_from_is_err_and}
 use Rattle.backward.proofs.Outcomes.{backward_read, backward_unread}
 use Rattle.backward.proofs.scan.Goals as goal
-use Rattle.backward.proofs.scan.Goals.{In-Number, In-Refused}
 
--- what the reader answered: a refusal, or how many keywords
-unread : (c : In-Refused)
-    → Read c.args.set.now (Counted.Refused c.in-Refused.fault) c.read-found.new.words
-unread c = rw c.in-Refused.is at c.read-found.ensures
+pub returns-in_err-words : goal.returns-in_err-words
+returns-in_err-words c =
+    let p = err_from_is_err_and c.from_residual.result c.from_residual.ensures.1 in
+    rw (p.1, p.2) (backward_unread _ _ c.in_err-words.ensures)
 
-list_read : (c : In-Number)
-    → Read c.args.set.now (Counted.Number c.in-Number.count) c.read-found.new.words
-list_read c = rw c.in-Number.is at c.read-found.ensures
-
-pub slice_bounds-list-end : goal.slice_bounds-list-end
-slice_bounds-list-end c = opened_room _ _ (list_read (goal.at.slice_bounds-list-end c).In-Number)
-
-pub slice_bounds-scan_words-end : goal.slice_bounds-scan_words-end
-slice_bounds-scan_words-end c = sym (length-take-le _ _ (opened_room _ _ (list_read (goal.at.slice_bounds-scan_words-end c).In-Number)))
-
-pub scan_words-requires : goal.scan_words-requires
-scan_words-requires c =
-    let so = opened _ _ (list_read (goal.at.scan_words-requires c).In-Number) in
-    (so.words, so.sound)
-
-pub returns-in-Refused : goal.returns-in-Refused
-returns-in-Refused c = backward_unread _ c.in-Refused.fault (refused _ c.in-Refused.fault (unread (goal.at.returns-in-Refused c).In-Refused))
-
-pub returns-in-Number : goal.returns-in-Number
-returns-in-Number c =
-    backward_read (opened _ _ (list_read (goal.at.returns-in-Number c).In-Number)) c.scan_words.ensures
+pub returns : goal.returns
+returns c = backward_read _ c.in_ok-words.words c.in_ok-words.ensures c.scan_words.ensures
