@@ -1,16 +1,12 @@
 -- No input has two outcomes: a short answer buffer leaves everything as it was, and else the job's promise fixes its
 -- answer and its buffers, and the answer fixes the result and the twenty bytes.
-use Prim.Native.Nat.{ℕ, ◌≤◌, ◌<◌}
+use Prim.Native.Nat.{ℕ}
 use mathlib.Core.Path.{◌≡◌, sym, ◌∙◌, ap}
 use mathlib.Core.List.{List}
-use lib.ListN.{length}
-use lib.Dec.{ltb}
-use borrow.Author.Tests.{ltb-true, ltb-false}
-use Rattle.rules.specs.sets.Limits.{answer_size}
 use Rattle.rules.specs.answers.Answers.{Told}
-use Rattle.rules.proofs.strings.Strings.{either}
 use Rattle.bezowik.specs.declared.answer.Answer.{Answer}
 use Rattle.bezowik.specs.Calls.{told_of, Telling, ForwardCall, BackwardCall, MakeCall, CheckCall}
+use Rattle.bezowik.proofs.Telling.{by_size}
 
 -- an answer's numbers are all that it has
 pub answer_determined : (a b : Answer) → told_of a ≡ told_of b → a ≡ b
@@ -18,12 +14,6 @@ answer_determined a b e = ap answer_of e
   where
     answer_of : Told → Answer
     answer_of t = record { number = t.number; place = t.place; count = t.count; questions = t.questions; energy = t.energy }
-
--- a buffer is shorter than an answer, or it is not
-by_size : {C : Type 0} (answer : List ℕ) → (length answer < answer_size → C) → (answer_size ≤ length answer → C) → C
-by_size answer short long =
-    either (ltb (length answer) answer_size) (λ t. short (ltb-true (length answer) answer_size t))
-    (λ f. long (ltb-false (length answer) answer_size f))
 
 -- one answer told twice
 told_once : {answer : List ℕ} {a b : Told} {r q : ℕ} {answer' answer'' : List ℕ} → a ≡ b → Telling answer a r answer' → Telling answer b q answer'' → (r ≡ q) × (answer' ≡ answer'')

@@ -1,54 +1,59 @@
--- A number's low bytes one at a time: what is left to put is the low bytes of what is left of the number.
-use Prim.Native.Nat.{ℕ, suc, ◌+◌, ◌-◌, ◌/◌, ◌%◌, ◌≤◌, ◌<◌}
+-- A number's low bytes are what `to_le_bytes` gives, and the five of an answer, each laid behind those before it, are
+-- its twenty bytes.
+use Prim.Native.Nat.{ℕ, zero, suc, ◌+◌, ◌/◌, ◌%◌, ◌^◌}
 use native.Mathlib.Omega.{arith}
-use native.Mathlib.Nat.{add-zero, sub-zero}
-use mathlib.Core.Path.{◌≡◌, refl, sym}
-use mathlib.Core.List.{List, [], ◌++◌}
-use lib.ListN.{length, set}
-use lib.Seq.{sets}
-use Rattle.rules.specs.sets.Limits.{answer_size}
+use mathlib.Core.Path.{◌≡◌, refl, sym, ◌∙◌, ap}
+use mathlib.Core.List.{List, [], ◌∷◌, ◌++◌, append_assoc}
+use lib.ListN.{length, take, drop, length-append}
+use lib.Seq.{drop-drop}
+use borrow.Rule.Slice.PartMut.{put_mid}
+use Rattle.std.specs.Int.{w16, w32, w64, bytes_low_first, to_le_bytes}
+use Rattle.std.proofs.Math.Nat.{div-div-eq-div-mul, pow-suc}
 use Rattle.rules.specs.scans.Hits.{over}
 use Rattle.rules.specs.answers.Answers.{Told, low_first, answer_bytes}
-use Rattle.rules.proofs.scans.Buffers.{over_none, over_sets}
+use Rattle.rules.proofs.scans.Buffers.{over_none, over-front, over_rest}
 
--- n low bytes of x are still to be put, from a place on, until the buffer is as it shall be
-abbrev pub Putting : List ℕ → ℕ → ℕ → ℕ → List ℕ → Type 0
-Putting answer at n x goal = sets answer at (low_first n x) ≡ goal
-
-pub putting_none : (answer : List ℕ) (from width x : ℕ) → Putting answer (from + 0) (width - 0) x (sets answer from (low_first width x))
-putting_none answer from width x = rw (add-zero, sub-zero)
-
-pub putting_more : (answer : List ℕ) (from k width x : ℕ) (goal : List ℕ)
-    → k < width
-    → Putting answer (from + k) (width - k) x goal
-    → Putting (set answer (from + k) (x % 256)) (from + (k + 1)) (width - (k + 1)) (x / 256) goal
+-- k bytes from byte i + 1 on are the low bytes of what is left of the number
+bytes_behind : (i k n : ℕ) → bytes_low_first (suc i) k n ≡ low_first k (n / 256 ^ suc i)
 unfolding low_first
-putting_more answer from k width x goal h known =
-    let left : width - k ≡ suc (width - (k + 1)) = omega arith in
-    let next : from + (k + 1) ≡ suc (from + k) = omega arith in
-    rw next (rw left at known)
+bytes_behind i zero n = refl
+bytes_behind i (suc k) n =
+    let rest : n / 256 ^ suc (suc i) ≡ n / 256 ^ suc i / 256 = rw (pow-suc, ← div-div-eq-div-mul) in
+    ap (λ (l : List ℕ). n / 256 ^ suc i % 256 ∷ l) (bytes_behind (suc i) k n ∙ ap (low_first k) rest)
 
-pub putting_all : (answer : List ℕ) (at n x : ℕ) (goal : List ℕ) → n ≡ 0 → Putting answer at n x goal → answer ≡ goal
+pub bytes_low : (k n : ℕ) → bytes_low_first 0 k n ≡ low_first k n
 unfolding low_first
-putting_all answer at n x goal e known = rw e at known
+bytes_low zero n = refl
+bytes_low (suc k) n = ap (λ (l : List ℕ). n % 256 ∷ l) (bytes_behind 0 k n)
 
--- The five numbers of an answer, each behind those before it, are its twenty bytes.
-put_next : (new more old s : List ℕ) (n : ℕ)
+-- what is laid behind `new` at the front of a buffer
+put_behind : (n k : ℕ) (new more old s : List ℕ)
     → length new ≡ n
-    → n + length more ≤ length old
+    → length more ≡ k
     → s ≡ over new old
-    → sets s n more ≡ over (new ++ more) old
-put_next new more old s n e room known =
-    rw known (rw (← e) (sym (over_sets new more old (omega arith))))
+    → put_mid n k s more ≡ over (new ++ more) old
+unfolding over
+put_behind n k new more old s e f known =
+    let front : take n s ≡ new = rw (known, ← e) (over-front new old) in
+    let rest : drop n s ≡ drop n old = rw (known, ← e) (over_rest new old) in
+    let behind : drop k (drop n s) ≡ drop (n + k) old = ap (drop k) rest ∙ drop-drop k n old in
+    let size : length (new ++ more) ≡ n + k = omega (arith, length-append new more) in
+    rw (front, behind, size) (sym (append_assoc new more (drop (n + k) old)))
 
-pub put_all : (old : List ℕ) (a : Told)
-    → answer_size ≤ length old
-    → sets (sets (sets (sets (sets old 0 (low_first 2 a.number)) 2 (low_first 2 a.place)) 4 (low_first 4 a.count)) 8 (low_first 4 a.questions)) 12 (low_first 8 a.energy)
-    ≡ over (answer_bytes a) old
-unfolding answer_bytes low_first
-put_all old a room =
-    put_next _ (low_first 8 a.energy) old _ 12 refl (omega arith)
-    (put_next _ (low_first 4 a.questions) old _ 8 refl (omega arith)
-    (put_next _ (low_first 4 a.count) old _ 4 refl (omega arith)
-    (put_next _ (low_first 2 a.place) old _ 2 refl (omega arith)
-    (put_next [] (low_first 2 a.number) old old 0 refl (omega arith) (sym (over_none old))))))
+pub put_all : (old : List ℕ) (a : Told) (number place count questions energy : List ℕ)
+    → number ≡ to_le_bytes w16 a.number
+    → place ≡ to_le_bytes w16 a.place
+    → count ≡ to_le_bytes w32 a.count
+    → questions ≡ to_le_bytes w32 a.questions
+    → energy ≡ to_le_bytes w64 a.energy
+    → put_mid 12 8 (put_mid 8 4 (put_mid 4 4 (put_mid 2 2 (put_mid 0 2 old number) place) count) questions) energy ≡ over (answer_bytes a) old
+unfolding answer_bytes
+put_all old a number place count questions energy n p c q e =
+    let bytes : number ++ place ++ count ++ questions ++ energy ≡ answer_bytes a =
+    rw (n ∙ bytes_low 2 a.number, p ∙ bytes_low 2 a.place, c ∙ bytes_low 4 a.count, q ∙ bytes_low 4 a.questions, e ∙ bytes_low 8 a.energy) in
+    rw (← bytes)
+    (put_behind 12 8 _ energy old _ (rw (n, p, c, q)) (rw e)
+    (put_behind 8 4 _ questions old _ (rw (n, p, c)) (rw q)
+    (put_behind 4 4 _ count old _ (rw (n, p)) (rw c)
+    (put_behind 2 2 _ place old _ (rw n) (rw p)
+    (put_behind 0 2 [] number old old refl (rw n) (sym (over_none old)))))))

@@ -3,28 +3,55 @@
 
 pub mod answer; // answer.rt: an answer in its twenty bytes
 
-ghost use Rattle.rules.specs.answers.Promises.{Host};
+ghost use Rattle.std.specs.Prelude.{◌≡◌, ◌≤◌, ◌<◌, length};
+ghost use Rattle.rules.specs.sets.Limits.{answer_size};
+ghost use Rattle.rules.specs.scans.Hits.{over};
+ghost use Rattle.rules.specs.answers.Answers.{told, answer_bytes};
+ghost use Rattle.bezowik.specs.Calls.{told_of};
+ghost use Rattle.bezowik.specs.declared.answer.Answer.{Answer};
+ghost use Rattle.rules.specs.answers.Promises.{host_told, Host};
 ghost use Rattle.bezowik.specs.Calls.{ForwardCall, BackwardCall, MakeCall, CheckCall};
 
-use crate::answer::{from_counted, from_scanned, write};
+use crate::answer::Answer;
 use backward::scan as scan_backward;
 use forward::scan;
-use rules::{ANSWER, WORKSPACE};
+use rules::{ANSWER, Refusal, Totals, WORKSPACE};
 use skips::{check, make};
+
+// The answer of a job, written in its twenty bytes; a shorter buffer is refused, and the job does not run. The job is
+// lent and not given, so that the caller knows what it left in the buffers that it holds.
+fn answered<R: Into<Answer>, F: FnMut() -> R>(answer: &mut [u8], job: &mut F) -> Answer
+    requires { F.IsAlwaysCallable job.old }
+    ensures short { length answer.old < answer_size
+        → (result.number ≡ 17) × (answer.new ≡ answer.old) × (job.new ≡ job.old) }
+    ensures called { answer_size ≤ length answer.old
+        → ((found : R) × F.step job.old found job.new × R.converts found result)
+        × (answer.new ≡ over (answer_bytes (told_of result)) answer.old) }
+{
+    if answer.len() < ANSWER {
+        return Answer::from(Refusal::AnswerShort);
+    }
+    let found: Answer = job().into();
+    found.write(answer);
+    found
+}
+
+// The forward scan with a workspace that is enough for every set, and no hit listed.
+fn cost(set: &[u8], trace: &[u8]) -> Result<Totals, Refusal>
+    ensures { told result ≡ host_told set.now trace.now }
+{
+    let mut workspace = [0u16; WORKSPACE];
+    let mut hits = [0u32; 1];
+    scan(set, trace, &mut workspace, &mut hits)
+}
 
 // The cost of a trace: the forward scan's count, questions and energy, in an answer of twenty bytes. The result is
 // the refusal's number, or 0.
 pub fn bezowik_cost(set: &[u8], trace: &[u8], answer: &mut [u8]) -> u16
     ensures { Host set.now trace.now answer.old result answer.new }
 {
-    if answer.len() < ANSWER {
-        return 17;
-    }
-    let mut workspace = [0u16; WORKSPACE];
-    let mut hits = [0u32; 1];
-    let found = from_scanned(scan(set, trace, &mut workspace, &mut hits));
-    write(answer, found);
-    found.number
+    let mut costs = || cost(set, trace);
+    answered(answer, &mut costs).number
 }
 
 // The forward scan, with the caller's workspace and hit buffer.
@@ -38,12 +65,8 @@ pub fn bezowik_forward(
     ensures { ForwardCall set.now trace.now workspace.old hits.old answer.old result
         workspace.new hits.new answer.new }
 {
-    if answer.len() < ANSWER {
-        return 17;
-    }
-    let found = from_scanned(scan(set, trace, workspace, hits));
-    write(answer, found);
-    found.number
+    let mut scans = || scan(set, trace, workspace, hits);
+    answered(answer, &mut scans).number
 }
 
 // The backward scan under a lent table, which is checked at each call.
@@ -60,12 +83,8 @@ pub fn bezowik_backward(
         workspace.old hits.old answer.old result
         workspace.new hits.new answer.new }
 {
-    if answer.len() < ANSWER {
-        return 17;
-    }
-    let found = from_scanned(scan_backward(set, trace, row_file, byte_file, workspace, hits));
-    write(answer, found);
-    found.number
+    let mut scans = || scan_backward(set, trace, row_file, byte_file, workspace, hits);
+    answered(answer, &mut scans).number
 }
 
 // Making skip tables: the largest safe numbers at the front of two buffers. The answer has the rows in the place of the
@@ -81,12 +100,8 @@ pub fn bezowik_make(
         answer.old result
         workspace.new row_buffer.new byte_buffer.new answer.new }
 {
-    if answer.len() < ANSWER {
-        return 17;
-    }
-    let made = from_counted(make(set, workspace, row_buffer, byte_buffer));
-    write(answer, made);
-    made.number
+    let mut makes = || make(set, workspace, row_buffer, byte_buffer);
+    answered(answer, &mut makes).number
 }
 
 // The check of a skip table. The answer has the rows in the place of the count.
@@ -101,10 +116,6 @@ pub fn bezowik_check(
         answer.old result
         workspace.new answer.new }
 {
-    if answer.len() < ANSWER {
-        return 17;
-    }
-    let checked = from_counted(check(set, row_file, byte_file, workspace));
-    write(answer, checked);
-    checked.number
+    let mut checks = || check(set, row_file, byte_file, workspace);
+    answered(answer, &mut checks).number
 }

@@ -2,145 +2,76 @@
 // lines that document 01 asks for.
 #![tactic(auto)]
 
-ghost use Rattle.words.specs.Items.{Words, keywords_in};
-ghost use Rattle.rules.specs.Beside.{Sound};
+ghost use Rattle.std.specs.Prelude.{◌*◌, ◌≤◌};
 
-use rules::{Counted, Refusal, Way};
+use rules::Way;
 use sets::{RECORD, read};
 use std::io;
-use words::{ITEM, LIST, count_rows, energy_of, length_of, shortest_of, unit};
+use words::{Keywords, LIST, count_of, count_rows, item_at, shortest_of, unit};
 
-// Room for 66 records.
-const SPACE: usize = 66 * RECORD;
+// A record, and room for 66 of them.
+type Record = [u8; RECORD];
 
-// What is `step` further than b, from 0 again after 255.
-fn after(b: u8, step: u8) -> u8 {
-    ((b as usize + step as usize) % 256) as u8
-}
+type Records = [Record; 66];
 
-// Where byte k of record i stands.
-fn place(i: usize, k: usize) -> usize {
-    if i < 66 {
-        if k < RECORD {
-            return RECORD * i + k;
-        }
-    }
-    SPACE
-}
+// Where a record's energy begins.
+const ENERGY: usize = 16;
 
-// Puts b at place p, where there is such a place.
-fn put(set: &mut [u8; SPACE], p: usize, b: u8) {
-    if p < SPACE {
-        set[p] = b;
-    }
-}
-
-// The byte at place k of a record whose keyword has len bytes: b, or the zero behind it.
-fn padded(k: usize, len: u8, b: u8) -> u8 {
-    if k <= len as usize { b } else { 0 }
-}
-
-// Writes the energy of record i, low byte first.
-fn put_energy(set: &mut [u8; SPACE], i: usize, a: u8, b: u8, c: u8, d: u8) {
-    put(set, place(i, 16), a);
-    put(set, place(i, 17), b);
-    put(set, place(i, 18), c);
-    put(set, place(i, 19), d);
-}
-
-// Writes record i: a keyword of len bytes that rise by step from first, and the largest energy.
-fn record(set: &mut [u8; SPACE], i: usize, len: u8, first: u8, step: u8) {
-    put(set, place(i, 0), len);
+// A record: a keyword of len bytes that rise by step from first, and the largest energy.
+fn record(len: u8, first: u8, step: u8) -> Record {
+    let mut record = [0; RECORD];
+    record[0] = len;
     let mut b = first;
-    for k in 1..16 {
-        put(set, place(i, k), padded(k, len, b));
-        b = after(b, step);
+    for byte in record[1..ENERGY].iter_mut().take(usize::from(len)) {
+        *byte = b;
+        b = b.wrapping_add(step);
     }
-    put_energy(set, i, 255, 255, 255, 255);
+    record[ENERGY..].fill(255);
+    record
 }
 
 // Records of keywords whose lengths go on by grow from len and whose first bytes go on by rise from first.
-fn family(len: u8, grow: u8, first: u8, rise: u8, step: u8) -> [u8; SPACE] {
-    let mut set = [0u8; SPACE];
+fn family(len: u8, grow: u8, first: u8, rise: u8, step: u8) -> Records {
+    let mut set = [[0; RECORD]; 66];
     let mut l = len;
     let mut b = first;
-    for i in 0..66 {
-        record(&mut set, i, l, b, step);
-        l = after(l, grow);
-        b = after(b, rise);
+    for place in &mut set {
+        *place = record(l, b, step);
+        l = l.wrapping_add(grow);
+        b = b.wrapping_add(rise);
     }
     set
 }
 
-// The byte of the first keyword that is read first.
-fn outer(words: &[u16], way: Way) -> usize
-    requires { Words words.now × Sound (keywords_in words.now) }
-{
-    let n = length_of(words, 0);
-    unit(words, 0, n, 0, way) as usize
-}
-
-// The energy of the first keyword.
-fn energy(words: &[u16]) -> usize
-    requires { Words words.now × Sound (keywords_in words.now) }
-{
-    energy_of(words, 0) as usize
-}
-
 // What a set that passed has: its keywords, its rows read forward and backward, its shortest keyword, and the energy,
 // the first and the last byte of its first keyword.
-fn passed(rt: &HostRuntime, words: &[u16], n: usize) -> io::Result<()>
-    requires { Words words.now × Sound (keywords_in words.now) }
-{
+fn passed(rt: &HostRuntime, words: Keywords<'_>) -> io::Result<()> {
+    let count = count_of(words.list);
     let forward = count_rows(words, Way::Forward);
     let backward = count_rows(words, Way::Backward);
-    print!(rt; ": keywords {n} rows {forward} {backward}")?;
+    print!(rt; ": keywords {count} rows {forward} {backward}")?;
     let shortest = shortest_of(words);
-    let figure = energy(words);
-    print!(rt; " shortest {shortest} energy {figure}")?;
-    let first = outer(words, Way::Forward);
-    let last = outer(words, Way::Backward);
+    let keyword = item_at(words.list, 0);
+    print!(rt; " shortest {shortest} energy {}", keyword.energy)?;
+    let first = unit(keyword.units, 0, Way::Forward);
+    let last = unit(keyword.units, 0, Way::Backward);
     print!(rt; " from {first} to {last}")
-}
-
-// A refusal's number and place.
-fn numbered(rt: &HostRuntime, number: usize, record: usize) -> io::Result<()> {
-    print!(rt; ": refusal {number} {record}")
-}
-
-// A refusal of the tests, which are 1 to 6.
-fn refused(rt: &HostRuntime, fault: Refusal) -> io::Result<()> {
-    match fault {
-        Refusal::SetEmpty => numbered(rt, 1, 0),
-        Refusal::SetSize => numbered(rt, 2, 0),
-        Refusal::TooManyKeywords => numbered(rt, 3, 0),
-        Refusal::Length { record } => numbered(rt, 4, record as usize),
-        Refusal::Padding { record } => numbered(rt, 5, record as usize),
-        Refusal::Repeated { record } => numbered(rt, 6, record as usize),
-        _ => numbered(rt, 0, 0),
-    }
 }
 
 // The answer of the tests.
 fn answer(rt: &HostRuntime, set: &[u8]) -> io::Result<()> {
     let mut list = [0u16; LIST];
-    let found = read(set, &mut list);
-    match found {
-        Counted::Number(n) => {
-            let count = n as usize;
-            let end = ITEM * count;
-            passed(rt, &list[..end], count)
-        }
-        Counted::Refused(fault) => refused(rt, fault),
+    match read(set, &mut list) {
+        Ok(words) => passed(rt, words),
+        Err(why) => print!(rt; ": {why}"),
     }
 }
 
 // A case: its name, and the answer to the first n bytes.
-fn case(rt: &HostRuntime, name: &str, set: &[u8; SPACE], n: usize) -> io::Result<()> {
+fn case(rt: &HostRuntime, name: &str, set: &Records, n: usize) -> io::Result<()> {
     print!(rt; "{name}")?;
-    let bytes: &[u8] = set;
-    if n <= bytes.len() {
-        answer(rt, &bytes[..n])?;
+    if let Some(bytes) = set.as_flattened().get(..n) {
+        answer(rt, bytes)?;
     }
     println!(rt;)
 }
@@ -168,28 +99,28 @@ fn lengths(rt: &HostRuntime) -> io::Result<()> {
     let far = family(255, 0, 1, 0, 1);
     case(rt, "length 255", &far, RECORD)?;
     let mut none = family(1, 0, 0, 1, 0);
-    put(&mut none, place(63, 0), 0);
+    none[63][0] = 0;
     case(rt, "length 0 in record 63", &none, 64 * RECORD)?;
-    put(&mut none, place(0, 0), 0);
+    none[0][0] = 0;
     case(rt, "length 0", &none, RECORD)
 }
 
 // The first and the last place behind a keyword, and what is no padding.
 fn paddings(rt: &HostRuntime) -> io::Result<()> {
     let mut first = family(1, 0, 0, 1, 0);
-    put(&mut first, place(0, 2), 1);
+    first[0][2] = 1;
     case(rt, "first padding byte", &first, RECORD)?;
     let mut last = family(1, 0, 0, 1, 0);
-    put(&mut last, place(63, 15), 255);
+    last[63][15] = 255;
     case(rt, "last padding byte of record 63", &last, 64 * RECORD)?;
-    put(&mut last, place(0, 15), 1);
+    last[0][15] = 1;
     case(rt, "last padding byte", &last, RECORD)?;
     let mut only = family(14, 0, 1, 0, 1);
     case(rt, "length 14", &only, RECORD)?;
-    put(&mut only, place(0, 15), 1);
+    only[0][15] = 1;
     case(rt, "its padding byte", &only, RECORD)?;
     let mut figure = family(1, 0, 0, 1, 0);
-    put_energy(&mut figure, 0, 1, 2, 3, 4);
+    figure[0][ENERGY..].copy_from_slice(&[1, 2, 3, 4]);
     case(rt, "energy is no padding", &figure, RECORD)
 }
 
@@ -199,7 +130,7 @@ fn zeros(rt: &HostRuntime) -> io::Result<()> {
     case(rt, "0 and 0 0", &set, 2 * RECORD)?;
     case(rt, "up to 15 zeros", &set, 15 * RECORD)?;
     let mut other = family(1, 0, 7, 0, 0);
-    put(&mut other, place(1, 0), 2);
+    other[1][0] = 2;
     case(rt, "7 and 7 0", &other, 2 * RECORD)
 }
 
@@ -208,10 +139,10 @@ fn repeats(rt: &HostRuntime) -> io::Result<()> {
     let set = family(1, 0, 7, 0, 0);
     case(rt, "record 1 as record 0", &set, 2 * RECORD)?;
     let mut far = family(1, 0, 0, 1, 0);
-    put(&mut far, place(63, 1), 0);
+    far[63][1] = 0;
     case(rt, "record 63 as record 0", &far, 64 * RECORD)?;
-    put(&mut far, place(63, 1), 62);
-    put(&mut far, place(63, 19), 0);
+    far[63][1] = 62;
+    far[63][19] = 0;
     case(
         rt,
         "record 63 as record 62, another energy",
@@ -223,16 +154,16 @@ fn repeats(rt: &HostRuntime) -> io::Result<()> {
 // The first fault in the order of the table, and of the records.
 fn several(rt: &HostRuntime) -> io::Result<()> {
     let mut empty = family(1, 0, 0, 1, 0);
-    put(&mut empty, place(0, 0), 0);
+    empty[0][0] = 0;
     case(rt, "length 0 in 19 bytes", &empty, RECORD - 1)?;
     case(rt, "length 0 in 65 records", &empty, 65 * RECORD)?;
-    put(&mut empty, place(0, 15), 1);
+    empty[0][15] = 1;
     case(rt, "length 0 and padding", &empty, RECORD)?;
     let mut padding = family(1, 0, 7, 0, 0);
-    put(&mut padding, place(1, 9), 1);
+    padding[1][9] = 1;
     case(rt, "padding and record 1 as record 0", &padding, 2 * RECORD)?;
-    put(&mut padding, place(1, 0), 16);
-    put(&mut padding, place(0, 9), 1);
+    padding[1][0] = 16;
+    padding[0][9] = 1;
     case(
         rt,
         "padding in record 0, length 16 in record 1",
@@ -240,7 +171,7 @@ fn several(rt: &HostRuntime) -> io::Result<()> {
         2 * RECORD,
     )?;
     let mut same = family(1, 0, 7, 0, 0);
-    put(&mut same, place(2, 0), 0);
+    same[2][0] = 0;
     case(
         rt,
         "record 1 as record 0, length 0 in record 2",
@@ -260,19 +191,16 @@ fn rows(rt: &HostRuntime) -> io::Result<()> {
     let behind = family(1, 1, 15, 255, 1);
     case(rt, "each ends the next", &behind, 15 * RECORD)?;
     let mut two = family(15, 0, 1, 0, 1);
-    put(&mut two, place(1, 15), 99);
+    two[1][15] = 99;
     case(rt, "14 of 15 bytes shared", &two, 2 * RECORD)
 }
 
 // Document 01's set W: LM, ALM and LMLA.
 fn bench(rt: &HostRuntime) -> io::Result<()> {
     let mut set = family(2, 1, 76, 0, 1);
-    put_energy(&mut set, 0, 40, 0, 0, 0);
-    put(&mut set, place(1, 1), 65);
-    put(&mut set, place(1, 2), 76);
-    put(&mut set, place(1, 3), 77);
-    put(&mut set, place(2, 3), 76);
-    put(&mut set, place(2, 4), 65);
+    set[0][ENERGY..].copy_from_slice(&[40, 0, 0, 0]);
+    set[1][1..4].copy_from_slice(b"ALM");
+    set[2][3..5].copy_from_slice(b"LA");
     case(rt, "set W", &set, 3 * RECORD)
 }
 

@@ -3,9 +3,8 @@
 
 ghost use Rattle.std.specs.Prelude.{◌≤◌, length};
 
-use bezowik::answer::{Answer, from_scanned};
 use forward::scan;
-use rules::WORKSPACE;
+use rules::{Totals, WORKSPACE};
 use std::fs::File;
 use std::io;
 use std::io::Read;
@@ -19,7 +18,7 @@ const ROOM: usize = 16385;
 fn fill(file: &mut File, buffer: &mut [u8]) -> usize
     ensures { result ≤ length buffer.new }
 {
-    let mut done = 0;
+    let mut done = 0; // no range: how much a read gives is the file's to say
     while done < buffer.len() {
         let n = file.read(&mut buffer[done..]).unwrap_or(0);
         if n == 0 {
@@ -30,61 +29,46 @@ fn fill(file: &mut File, buffer: &mut [u8]) -> usize
     done
 }
 
-// The bytes of a file into a buffer, and how many they are; as many as the buffer has where the file is missing or
-// longer.
-fn load(rt: &HostRuntime, path: &str, buffer: &mut [u8]) -> usize
-    ensures { result ≤ length buffer.new }
-{
-    match File::open(rt, path) {
-        Ok(mut file) => fill(&mut file, buffer),
-        Err(_) => buffer.len(),
+// The bytes of a file, read into a buffer; none where the file is missing or longer than the most.
+fn load<'a>(rt: &HostRuntime, path: &str, buffer: &'a mut [u8; ROOM]) -> Option<&'a [u8]> {
+    let mut file = File::open(rt, path).ok()?;
+    let size = fill(&mut file, buffer);
+    if MOST < size {
+        return None;
     }
+    Some(&buffer[..size])
 }
 
-// The hits that were listed, a line each: an end and a keyword's number.
-fn print_hits(rt: &HostRuntime, hits: &[u32], count: usize) -> io::Result<()> {
-    for i in 0..hits.len() / 2 {
-        if count <= i {
-            return Ok(());
-        }
-        let end = hits[2 * i];
-        let keyword = hits[2 * i + 1];
-        println!(rt; "{end} {keyword}")?;
+// The totals of a scan, and a line each for the hits that were listed: an end and a keyword's number.
+fn print(rt: &HostRuntime, totals: Totals, hits: &[u32]) -> io::Result<()> {
+    println!(rt;
+        "count {} energy {} questions {}",
+        totals.count, totals.energy, totals.questions
+    )?;
+    for hit in hits.chunks_exact(2).take(totals.count as usize) {
+        println!(rt; "{} {}", hit[0], hit[1])?;
     }
     Ok(())
 }
 
-// What a scan answered: the refusal, or the totals and the hits.
-fn print(rt: &HostRuntime, found: Answer, hits: &[u32]) -> io::Result<()> {
-    if found.number != 0 {
-        return println!(rt; "refusal {} {}", found.number, found.place);
-    }
-    println!(rt;
-        "count {} energy {} questions {}",
-        found.count, found.energy, found.questions
-    )?;
-    print_hits(rt, hits, found.count as usize)
-}
-
-// The two files, and what the scan of them found.
-fn main(rt: HostRuntime) -> io::Result<()> {
-    let mut set = [0u8; ROOM];
-    let mut text = [0u8; ROOM];
-    let set_bytes = load(&rt, "set.bin", &mut set);
-    let text_bytes = load(&rt, "text.bin", &mut text);
-    if MOST < set_bytes {
-        return println!(rt; "input");
-    }
-    if MOST < text_bytes {
-        return println!(rt; "input");
-    }
+// What the scan of a text with a set answers: the totals and the hits, or the refusal.
+fn answer(rt: &HostRuntime, set: &[u8], text: &[u8]) -> io::Result<()> {
     let mut workspace = [0u16; WORKSPACE];
     let mut hits = [0u32; 8192];
-    let found = scan(
-        &set[..set_bytes],
-        &text[..text_bytes],
-        &mut workspace,
-        &mut hits,
-    );
-    print(&rt, from_scanned(found), &hits)
+    match scan(set, text, &mut workspace, &mut hits) {
+        Ok(totals) => print(rt, totals, &hits),
+        Err(why) => println!(rt; "{why}"),
+    }
+}
+
+// The two files, and what the scan of them answers.
+fn main(rt: HostRuntime) -> io::Result<()> {
+    let mut set_buffer = [0u8; ROOM];
+    let mut text_buffer = [0u8; ROOM];
+    let set = load(&rt, "set.bin", &mut set_buffer);
+    let text = load(&rt, "text.bin", &mut text_buffer);
+    match (set, text) {
+        (Some(set), Some(text)) => answer(&rt, set, text),
+        _ => println!(rt; "input"),
+    }
 }
