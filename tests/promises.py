@@ -10,7 +10,10 @@ import sys
 from pathlib import Path
 
 TOP = Path(__file__).resolve().parent.parent
-FUNCTION = re.compile(r"^ *(pub|pub\(crate\)) (?:extern \"C\" )?fn (\w+)[^{]*?(\brequires\b|\bensures\b|\{)", re.M | re.S)
+FUNCTION = re.compile(
+    r"^ *(pub|pub\(crate\)) (?:extern \"C\" )?fn (\w+)[^{]*?(?:\bghost \w+: \{[^{}]*\}\s*)?(\brequires\b|\bensures\b|\{)",
+    re.M | re.S,
+)
 NAME = re.compile(r"`([^`]+)`")
 
 
