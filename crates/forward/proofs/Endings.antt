@@ -1,7 +1,8 @@
 -- The hits at an end are listed along the dictionary rows: what is listed and what still ends the row's string are
 -- always all the hits, and each row's string is shorter than the one before.
-use Prim.Native.Nat.{ℕ, zero, suc, ◌+◌, ◌-◌, ◌*◌, ◌≤◌, ◌<◌}
+use Prim.Native.Nat.{ℕ, suc, ◌+◌, ◌-◌, ◌*◌, ◌≤◌, ◌<◌}
 use native.Mathlib.Omega.{arith}
+use native.Mathlib.Numerals.{add-one}
 use mathlib.Core.Path.{◌≡◌, refl, sym, ◌∙◌, ap}
 use mathlib.Core.Logic.{◌⊎◌, inl, inr, ⊎_elim}
 use mathlib.Core.Bool.{true}
@@ -22,8 +23,9 @@ use Rattle.rules.proofs.rows.KeyNumbers.{KeyAt, key_at, key_none, numbered_is}
 use Rattle.rules.proofs.scans.Hits.{hits_snoc, hits_few, hits_occur, energy_most}
 use Rattle.rules.specs.Beside.{Sound, numbered}
 use Rattle.words.specs.Items.{keywords_in}
-use Rattle.rows.specs.Tree.{link, own}
+use Rattle.rows.specs.Tree.{own}
 use Rattle.rows.specs.Laid.{Laid}
+use Rattle.rows.proofs.Links.{owned, unowned}
 use Rattle.hits.specs.declared.Tally.{Tally}
 use Rattle.hits.specs.Tallies.{Tallied, Hitting, hit_of}
 use Rattle.forward.specs.Progress.{AllFound, Course, Ending, Listing, string_at, dictionary_in, ending_in}
@@ -33,30 +35,9 @@ use Rattle.forward.proofs.States.{rows_for, state_within, state_reads}
 abbrev pub key_in : List ℕ → ℕ → ℕ
 key_in ws at = get_or ws (row_cells * at + 4) 0
 
--- a keyword's number as it stands in a row, and a number that names a row, which 0 does not
-own_none : (x : ℕ) → own x ≡ None → x ≡ 0
-unfolding own
-own_none zero e = refl
-own_none (suc n) e = cc
-
-own_some : (x : ℕ) {n : ℕ} → own x ≡ Some n → x ≡ suc n
-unfolding own
-own_some zero e = cc
-own_some (suc x) e = cc
-
 filled_or : (s : List ℕ) → (1 ≤ length s) ⊎ (s ≡ [])
 filled_or [] = inr refl
 filled_or (x ∷ s) = inl (omega arith)
-
-pub link_none : (d : ℕ) → link d ≡ None → d ≡ 0
-unfolding link
-link_none zero e = refl
-link_none (suc d) e = cc
-
-pub link_some : (d : ℕ) {i : ℕ} → link d ≡ Some i → (d ≡ i) × (d ≡ 0 → ⊥)
-unfolding link
-link_some zero e = cc
-link_some (suc d) e = (cc, λ z. omega (arith, z))
 
 module _ {ks : List Keyword} {ws : List ℕ} (sound : Sound ks) (laid : Laid forward ks ws) (at : ℕ)
     (q : at < length (rows_for ks)) where
@@ -101,7 +82,7 @@ module _ {ks : List Keyword} {ws : List ℕ} (sound : Sound ks) (laid : Laid for
   ending_none : (e : ℕ) → own (key_in ws at) ≡ None → ending_in ks e at ≡ ending_in ks e (dictionary_in ws at)
   unfolding read_by
   ending_none e z =
-      let key : key_of forward ks (string_at ks at) ≡ 0 = sym (laid.keys at q) ∙ own_none (key_in ws at) z in
+      let key : key_of forward ks (string_at ks at) ≡ 0 = sym (laid.keys at q) ∙ unowned (key_in ws at) z in
       rw (ending_behind ks sound.filled (string_at ks at), key_none forward ks (string_at ks at) key, ← dictionary_reads)
 
   ending_own : (e : ℕ) (k : Keyword)
@@ -157,7 +138,7 @@ module _ (l : List ℕ) {course : Course} {ws hs : List ℕ} {at end : ℕ} {tal
   -- the keyword's number as the code has it
   module _ {n : ℕ} (some : own (key_in ws at) ≡ Some n) where
     key : key_of forward (keywords_in l) (string_at (keywords_in l) at) ≡ suc n
-    key = sym (laid.keys at listing.within) ∙ own_some (key_in ws at) some
+    key = sym (laid.keys at listing.within) ∙ owned (key_in ws at) _ some ∙ add-one _
 
     here : (k : Keyword) × KeyAt forward (keywords_in l) (string_at (keywords_in l) at) k
     here = key_at forward (string_at (keywords_in l) at) sound (λ z. omega (arith, key, z))

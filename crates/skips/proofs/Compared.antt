@@ -1,25 +1,16 @@
 -- A record is compared with the one that names its row, then number with number: the first fault decides.
 use Prim.Native.Nat.{ℕ, ◌+◌, ◌-◌, ◌*◌}
-use mathlib.Core.Path.{◌≡◌, refl, sym, ap}
-use mathlib.Core.Bool.{true, false, ◌&&◌, not}
-use mathlib.Core.List.{List, [], ◌∷◌}
+use mathlib.Core.Path.{◌≡◌, sym}
+use mathlib.Core.Bool.{true, false, not}
+use mathlib.Core.List.{List}
 use lib.ListN.{take, drop, get_or}
 use lib.Pointwise.{pointwise}
 use lib.Dec.{eqb}
 use native.Mathlib.Omega.{arith}
 use Rattle.rules.specs.sets.Limits.{row_record}
-use Rattle.rules.specs.strings.Strings.{same}
 use Rattle.rules.specs.answers.Refusals.{pass, refuse, refuse_if, or_else, faulty}
-use Rattle.rules.proofs.strings.Strings.{or_right}
+use Rattle.rules.proofs.strings.Strings.{or_right, same_listed}
 use Rattle.skips.specs.Judging.{fault_of}
-
--- whether two strings are the same is what `==` answers of them
-pub same_listed : (a b : List ℕ) → same a b ≡ pointwise eqb a b
-unfolding same
-same_listed [] [] = refl
-same_listed [] (y ∷ b) = refl
-same_listed (x ∷ a) [] = refl
-same_listed (x ∷ a) (y ∷ b) = ap (λ t. eqb x y && t) (same_listed a b)
 
 -- the record of that row in the file, as the code cuts it out
 abbrev pub row_record_at : List ℕ → ℕ → List ℕ

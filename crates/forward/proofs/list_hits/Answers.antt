@@ -1,8 +1,10 @@
 -- The row's own keyword comes first; what is left then are the hits of the next dictionary row, until there is none.
+use native.Mathlib.Omega.{arith}
 use mathlib.Core.Path.{◌≡◌, sym, ◌∙◌}
 use Rattle.words.specs.Items.{keywords_in}
 use Rattle.forward.specs.Progress.{Listing, dictionary_in}
-use Rattle.forward.proofs.Endings.{link_none, link_some, dictionary_shorter, listing_none, listing_all}
+use Rattle.rows.proofs.Links.{linked, unlinked}
+use Rattle.forward.proofs.Endings.{dictionary_shorter, listing_none, listing_all}
 use Rattle.forward.proofs.list_hits.Goals as goal
 use Rattle.forward.proofs.list_hits.Goals.{In-Some}
 use Rattle.forward.proofs.list_hits.Given.{Over}
@@ -18,7 +20,7 @@ loop-behind-init g c =
 is : (g : Over) (c : In-Some g)
     → (dictionary_in c.args.scan.ws.now c.loop-behind.at ≡ c.in-Some.behind)
     × (dictionary_in c.args.scan.ws.now c.loop-behind.at ≡ 0 → ⊥)
-is g c = link_some _ (sym c.dictionary.ensures.0 ∙ c.in-Some.is)
+is g c = let (same, some) = linked _ _ (sym c.dictionary.ensures.0 ∙ c.in-Some.is) in (same, λ z. omega (arith, same, some, z))
 
 listing : (g : Over) (c : In-Some g)
     → Listing (keywords_in c.args.scan.words.list.now) g.course c.in-Some.behind c.args.end c.loop-behind.next
@@ -41,5 +43,5 @@ loop-behind-preserved g c =
 
 pub returns : goal.returns
 returns g c =
-    let none = link_none _ (sym c.dictionary.ensures.0 ∙ c.in_default.is) in
+    let none = unlinked _ (sym c.dictionary.ensures.0 ∙ c.in_default.is) in
     listing_all c.args.scan.words.sound (rw none at c.loop-behind.invariant.listing)
