@@ -127,11 +127,7 @@ fn scan_words(
 {
     check_words(words, trace.len(), table, workspace)?;
     let seen = run(workspace, words, trace, table, hits);
-    Ok(Totals {
-        count: seen.tally.count as u32,
-        questions: seen.questions as u32,
-        energy: seen.tally.energy,
-    })
+    Ok(seen.tally.totals(seen.questions))
 }
 
 // The backward scan of a trace with a set and a table: refusals 1 to 6 and 8 to 14, else what was found.

@@ -137,11 +137,7 @@ fn scan_words(
         ws: workspace,
     };
     let found = proceed(scan, trace, hits, fresh());
-    Ok(Totals {
-        count: found.tally.count as u32,
-        questions: found.questions as u32,
-        energy: found.tally.energy,
-    })
+    Ok(found.tally.totals(found.questions))
 }
 
 // The forward scan of a trace with a set: refusals 1 to 6, 8 and 9, else what was found.

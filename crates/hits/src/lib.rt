@@ -1,11 +1,12 @@
 // The hits of a scan: counted always, listed while the lent buffer has room.
 #![tactic(auto)]
 
-ghost use Rattle.std.specs.Prelude.{List, [], ◌∷◌, ◌++◌, ℕ};
+ghost use Rattle.std.specs.Prelude.{◌≡◌, ◌<◌, List, [], ◌∷◌, ◌++◌, ℕ};
 ghost use Rattle.rules.specs.scans.Hits.{Hit};
 ghost use Rattle.words.specs.Items.{keywords_in};
 ghost use Rattle.hits.specs.Tallies.{Tallied, Hitting, hit_of};
 
+use rules::Totals;
 use words::{Keywords, item_at, place_of};
 
 // What a scan has found: how many hits, their energy, and how many of them are listed.
@@ -14,6 +15,20 @@ pub struct Tally {
     pub count: usize,
     pub energy: u64,
     pub listed: usize,
+}
+
+impl Tally {
+    // What a scan answers that has found this, and asked so many questions.
+    pub fn totals(self, questions: usize) -> Totals
+        requires { (self.count < 4294967296) × (questions < 4294967296) }
+        ensures { result ≡ record { count = self.count; questions = questions; energy = self.energy } }
+    {
+        Totals {
+            count: self.count as u32,
+            questions: questions as u32,
+            energy: self.energy,
+        }
+    }
 }
 
 // Nothing found yet.

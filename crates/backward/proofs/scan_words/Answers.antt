@@ -37,15 +37,13 @@ run-seen-requires c =
     let so = passed place in
     run_safe c.args.trace.now c.args.workspace.now c.args.words.sound (entry place) so.1 so.2
 
-pub overflow_cast-result : goal.overflow_cast-result
-overflow_cast-result c =
-    omega (arith, count_few _ c.args.words.sound (entry (goal.at.overflow_cast-result c).In_ok-check_words).near c.run-seen.ensures)
-
-pub overflow_cast-result-2 : goal.overflow_cast-result-2
-overflow_cast-result-2 c =
-    omega (arith, questions_few _ c.args.words.sound (entry (goal.at.overflow_cast-result-2 c).In_ok-check_words).near c.run-seen.ensures)
+pub totals-requires : goal.totals-requires
+totals-requires c =
+    let near = (entry (goal.at.totals-requires c).In_ok-check_words).near in
+    let seen = c.run-seen.ensures in
+    (omega (arith, count_few _ c.args.words.sound near seen), omega (arith, questions_few _ c.args.words.sound near seen))
 
 pub returns : goal.returns
 returns c =
     let so = passed (goal.at.returns c).In_ok-check_words in
-    backward-found _ so.0 so.2 so.1 c.run-seen.ensures
+    rw c.totals.ensures (backward-found _ so.0 so.2 so.1 c.run-seen.ensures)

@@ -45,17 +45,13 @@ proceed-found-requires c =
     start_going (entry (goal.at.proceed-found-requires c).In_ok-begin).near
     (c.fresh.ensures (keywords_in c.args.words.list.now) c.args.hits.now)
 
-pub overflow_cast-result : goal.overflow_cast-result
-overflow_cast-result c =
-    let near = (entry (goal.at.overflow_cast-result c).In_ok-begin).near in
-    omega (arith, count_few _ near c.proceed-found.ensures c.args.words.sound)
-
-pub overflow_cast-result-2 : goal.overflow_cast-result-2
-overflow_cast-result-2 c =
-    let near = (entry (goal.at.overflow_cast-result-2 c).In_ok-begin).near in
-    omega (arith, questions_few _ near c.proceed-found.ensures)
+pub totals-requires : goal.totals-requires
+totals-requires c =
+    let near = (entry (goal.at.totals-requires c).In_ok-begin).near in
+    let found = c.proceed-found.ensures in
+    (omega (arith, count_few _ near found c.args.words.sound), omega (arith, questions_few _ near found))
 
 pub returns : goal.returns
 returns c =
     let so = begun_laid (began (goal.at.returns c).In_ok-begin) in
-    forward-found _ so.0 so.2 c.proceed-found.ensures
+    rw c.totals.ensures (forward-found _ so.0 so.2 c.proceed-found.ensures)
