@@ -23,7 +23,7 @@ use Rattle.rules.proofs.skips.Runs.{run_asks}
 use Rattle.rules.proofs.answers.Entering.{Entry}
 use Rattle.words.specs.Items.{keywords_in}
 use Rattle.words.specs.declared.Keywords.{Keywords}
-use Rattle.sets.specs.Reading.{Read}
+use Rattle.sets.specs.Reading.{Lent}
 use Rattle.rows.proofs.Laying.{over_laid}
 use Rattle.skips.proofs.Accepts.{check_passed}
 use Rattle.backward.specs.declared.Seen.{Seen}
@@ -96,7 +96,7 @@ backward-found v p laid q ran =
 
 -- with the keywords of a set that was read, and with a set that was refused
 pub backward_read : (s : List ℕ) (words : Keywords) {t rowf bytef ws hs : List ℕ} {a : Told} {ws' hs' : List ℕ}
-    → Read s (Ok words)
+    → Lent s (Ok words)
     → let ks = keywords_in words.list.now in
     BackwardOf (entry_verdict backward ks (length t) (length ws)) ks t rowf bytef ws hs a ws' hs'
     → Backward s t rowf bytef ws hs a ws' hs'

@@ -18,7 +18,7 @@ use hits::{Tally, list, nothing};
 use rows::cells::key;
 use rows::tree::ask;
 use rules::{DEPTHS, ROW, Refusal, Totals};
-use sets::read;
+use sets::read_keywords;
 use skips::{Table, check_words};
 use words::{Keywords, LIST};
 
@@ -143,7 +143,7 @@ pub fn scan(
         workspace.old hits.old (told result) workspace.new hits.new }
 {
     let mut list = [0u16; LIST];
-    let words = read(set, &mut list)?;
+    let words = read_keywords(set, &mut list)?;
     let table = Table {
         row_file,
         byte_file,

@@ -20,7 +20,7 @@ use Rattle.rules.proofs.scans.Hits.{hits_few}
 use Rattle.rules.proofs.scans.Questions.{questions_bound}
 use Rattle.words.specs.Items.{keywords_in}
 use Rattle.words.specs.declared.Keywords.{Keywords}
-use Rattle.sets.specs.Reading.{Read}
+use Rattle.sets.specs.Reading.{Lent}
 use Rattle.rows.specs.Beginning.{Begun}
 use Rattle.rows.proofs.Begun.{begun_refused}
 use Rattle.forward.specs.declared.Running.{Running}
@@ -79,7 +79,7 @@ forward-found v p laid scanned =
 
 -- with the keywords of a set that was read
 pub forward_read : (s : List ℕ) (words : Keywords) {t ws hs : List ℕ} {a : Told} {ws' hs' : List ℕ}
-    → Read s (Ok words)
+    → Lent s (Ok words)
     → let ks = keywords_in words.list.now in
     ForwardOf (entry_verdict forward ks (length t) (length ws)) ks t ws hs a ws' hs'
     → Forward s t ws hs a ws' hs'

@@ -16,7 +16,7 @@ use rows::begin;
 use rows::cells::{dictionary, key};
 use rows::failures::advance;
 use rules::{Refusal, Totals, Way};
-use sets::read;
+use sets::read_keywords;
 use words::{Keywords, LIST};
 
 // What a scan reads beside the trace: keywords, and a workspace with their forward rows.
@@ -151,6 +151,6 @@ pub fn scan(
         workspace.new hits.new }
 {
     let mut list = [0u16; LIST];
-    let words = read(set, &mut list)?;
+    let words = read_keywords(set, &mut list)?;
     scan_words(words, trace, workspace, hits)
 }

@@ -5,7 +5,7 @@
 ghost use Rattle.std.specs.Prelude.{◌*◌, ◌≤◌};
 
 use rules::Way;
-use sets::{RECORD, read};
+use sets::{RECORD, read_keywords};
 use std::io;
 use words::{Keywords, LIST, count_of, count_rows, item_at, shortest_of, unit};
 
@@ -61,7 +61,7 @@ fn passed(rt: &HostRuntime, words: Keywords<'_>) -> io::Result<()> {
 // The answer of the tests.
 fn answer(rt: &HostRuntime, set: &[u8]) -> io::Result<()> {
     let mut list = [0u16; LIST];
-    match read(set, &mut list) {
+    match read_keywords(set, &mut list) {
         Ok(words) => passed(rt, words),
         Err(why) => print!(rt; ": {why}"),
     }

@@ -36,11 +36,11 @@ pub record RecordRead (s : List ℕ) (i : ℕ) (r : Result (Unit {0}) Refusal) (
 
 -- all records: the tests 1 to 6; where they pass the number of keywords, which are sound and stand at the front of the
 -- list
-abbrev pub Gathered : List ℕ → Result ℕ Refusal → List ℕ → Type 0
-Gathered s (Ok n) l' = (file_verdict s ≡ pass) × (n ≡ length (keywords s)) × Begins l' (keywords s) × Sound (keywords s)
-Gathered s (Err fault) l' = file_verdict s ≡ refuse (number_of fault) (place_of fault)
+abbrev pub Read : List ℕ → Result ℕ Refusal → List ℕ → Type 0
+Read s (Ok n) l' = (file_verdict s ≡ pass) × (n ≡ length (keywords s)) × Begins l' (keywords s) × Sound (keywords s)
+Read s (Err fault) l' = file_verdict s ≡ refuse (number_of fault) (place_of fault)
 
--- the set: its keywords where the tests 1 to 6 pass, and else the refusal
-abbrev pub Read : List ℕ → Result Keywords Refusal → Type 0
-Read s (Ok words) = (file_verdict s ≡ pass) × (keywords_in words.list.now ≡ keywords s)
-Read s (Err fault) = file_verdict s ≡ refuse (number_of fault) (place_of fault)
+-- the keywords as a value, lent from the list where the tests pass, and else the refusal
+abbrev pub Lent : List ℕ → Result Keywords Refusal → Type 0
+Lent s (Ok words) = (file_verdict s ≡ pass) × (keywords_in words.list.now ≡ keywords s)
+Lent s (Err fault) = file_verdict s ≡ refuse (number_of fault) (place_of fault)

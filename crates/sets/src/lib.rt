@@ -6,7 +6,7 @@ ghost use Rattle.std.specs.Prelude.{◌≡◌, ◌*◌, ◌<◌, ◌≤◌, leng
 ghost use Rattle.rules.specs.sets.Limits.{record_size, most_keywords, longest_word};
 ghost use Rattle.rules.specs.sets.Sets.{keyword_of};
 ghost use Rattle.words.specs.Items.{item_size, word_of};
-ghost use Rattle.sets.specs.Reading.{Stated, padding_fault, Reading, RecordRead, Gathered, Read};
+ghost use Rattle.sets.specs.Reading.{Stated, padding_fault, Reading, RecordRead, Read, Lent};
 
 use rules::{KEYWORDS, LONGEST, Refusal};
 use words::{ITEM, Keywords, Word, put, repeated};
@@ -73,9 +73,9 @@ fn read_record(set: &[u8], i: usize, list: &mut [u16]) -> Result<(), Refusal>
 }
 
 // The tests 1 to 6 of a set, and its keywords at the front of a list with room for 64; how many there are.
-pub fn gather(set: &[u8], list: &mut [u16]) -> Result<usize, Refusal>
+pub fn read(set: &[u8], list: &mut [u16]) -> Result<usize, Refusal>
     requires { item_size * most_keywords ≤ length list.old }
-    ensures { Gathered set.now result list.new }
+    ensures { Read set.now result list.new }
 {
     let size = set.len();
     if size == 0 {
@@ -95,11 +95,11 @@ pub fn gather(set: &[u8], list: &mut [u16]) -> Result<usize, Refusal>
 }
 
 // The tests 1 to 6 of a set, and its keywords as a value, lent from a list with room for 64.
-pub fn read<'a>(set: &[u8], list: &'a mut [u16]) -> Result<Keywords<'a>, Refusal>
+pub fn read_keywords<'a>(set: &[u8], list: &'a mut [u16]) -> Result<Keywords<'a>, Refusal>
     requires { item_size * most_keywords ≤ length list.old }
-    ensures { Read set.now result }
+    ensures { Lent set.now result }
 {
-    let count = gather(set, list)?;
+    let count = read(set, list)?;
     let end = ITEM * count;
     Ok(Keywords { list: &list[..end] })
 }

@@ -21,7 +21,7 @@ use crate::measured::measure;
 use crate::suffixes::put_rows;
 use rows::begin;
 use rules::{BYTES, ROW, Refusal, Way};
-use sets::read;
+use sets::read_keywords;
 use words::{Keywords, LIST};
 
 // A table: the file with the numbers of the rows and the one with those of the bytes.
@@ -68,7 +68,7 @@ pub fn make(
         workspace.new row_buffer.new byte_buffer.new }
 {
     let mut list = [0u16; LIST];
-    let words = read(set, &mut list)?;
+    let words = read_keywords(set, &mut list)?;
     make_words(words, workspace, row_buffer, byte_buffer)
 }
 
@@ -101,7 +101,7 @@ pub fn check(
         workspace.new }
 {
     let mut list = [0u16; LIST];
-    let words = read(set, &mut list)?;
+    let words = read_keywords(set, &mut list)?;
     check_words(
         words,
         0,

@@ -1,30 +1,47 @@
--- The list begins with the set's keywords, so its front is the list of them, and they are sound.
-use Prim.Native.Nat.{◌*◌}
-use mathlib.Core.Path.{◌≡◌, sym}
-use lib.ListN.{take}
-use lib.Seq.{length-take-le}
-use Rattle.rules.specs.sets.Sets.{keywords}
-use Rattle.words.specs.Items.{item_size, Words, keywords_in}
-use Rattle.words.proofs.Storing.{begins_cut}
+-- The records before the one at hand passed and their keywords are kept, so the first fault of the next one is the
+-- file's.
+use mathlib.Core.Path.{◌≡◌, sym, ◌∙◌, ap}
+use Rattle.rules.specs.answers.Promises.{verdict_of}
+use Prim.Native.Nat.{◌/◌}
+use lib.ListN.{length}
+use native.Mathlib.Omega.{arith}
+use Rattle.rules.specs.sets.Limits.{record_size}
+use Rattle.std.proofs.lemmas.Result.{err_from_is_err_and}
+use Rattle.rules.proofs.sets.Bytes.{bytes_sound}
+use Rattle.sets.proofs.Files.{records_none, records_more, read_empty, read_size, read_many, read_fault, read_all}
 use Rattle.sets.proofs.read.Goals as goal
-use Rattle.sets.proofs.read.Goals.{In_ok-count}
 
--- the front is the list of the set's keywords
-front : (c : In_ok-count)
-    → let l = take (item_size * c.in_ok-count.count) c.gather.new.list in
-    Words l × (keywords_in l ≡ keywords c.args.set.now)
-front c = let (passed, count, begins, sound) = c.in_ok-count.ensures in begins_cut c.in_ok-count.count count begins
+pub returns-then-size-eq0 : goal.returns-then-size-eq0
+returns-then-size-eq0 c = read_empty _ c.if-size-eq0.true
 
-pub slice_bounds-result-end : goal.slice_bounds-result-end
-slice_bounds-result-end c = let (passed, count, begins, sound) = c.in_ok-count.ensures in sym (length-take-le _ _ (rw count begins.room))
+pub returns-then-size-ne0 : goal.returns-then-size-ne0
+returns-then-size-ne0 c = read_size _ c.if-size-eq0.false c.if-size-ne0.true
 
-pub invariant_of-result : goal.invariant_of-result
-invariant_of-result c =
-    let (words, holds) = front (goal.at.invariant_of-result c).In_ok-count in
-    record {
-      shaped = words;
-      sound = rw holds (c.in_ok-count.ensures).3;
-    }
+pub returns-then-count-gt-KEYWORDS : goal.returns-then-count-gt-KEYWORDS
+returns-then-count-gt-KEYWORDS c = read_many _ c.if-size-eq0.false c.if-size-ne0.false c.if-count-gt-KEYWORDS.true
+
+pub loop-i-init : goal.loop-i-init
+loop-i-init c = records_none _ c.requires
+
+pub read_record-requires : goal.read_record-requires
+read_record-requires c =
+    let so = c.loop-i.invariant in
+    record { whole = omega arith; few = omega arith; room = so.room; passed = so.passed; begins = so.begins }
+
+pub returns-in_err-read_record : goal.returns-in_err-read_record
+returns-in_err-read_record c =
+    let p = err_from_is_err_and c.from_residual.result c.from_residual.ensures.1 in
+    rw (p.1, p.2) (read_fault _ c.if-size-eq0.false c.if-size-ne0.false c.if-count-gt-KEYWORDS.false _ c.loop-i.invariant c.loop-i-test.true
+    (c.in_err-read_record.ensures).told)
+
+pub loop-i-preserved : goal.loop-i-preserved
+loop-i-preserved c =
+    let read = c.read_record.ensures in
+    records_more c.loop-i.invariant c.read_record.auto.list (sym read.told ∙ ap verdict_of c.in_ok-read_record.was) read
 
 pub returns : goal.returns
-returns c = ((c.in_ok-count.ensures).0, (front (goal.at.returns c).In_ok-count).1)
+returns c =
+    let s = c.args.set.now in
+    let all : c.loop-i.i ≡ length s / record_size = omega arith in
+    let (passed, counted, begins) = read_all s c.if-size-eq0.false c.if-size-ne0.false c.if-count-gt-KEYWORDS.false (rw all at c.loop-i.invariant) in
+    (passed, counted, begins, bytes_sound s (λ i. (c.type_inv.set i).fits) passed)
