@@ -1,6 +1,6 @@
 #!/usr/bin/env bash
 # Compiles the C example and the tests of the header, as C99 and the tests as C++11 too where there is g++, and runs them: the example on
-# the bench files. Looks at the archive's public names where there is nm, and runs the example under valgrind where there is that.
+# the bench files. Looks at the archive's names where there is nm, and runs the example under valgrind where there is that.
 set -euo pipefail
 cd "$(dirname "$0")/.."
 made=$(mktemp -d)
@@ -23,12 +23,13 @@ sed -n '/^ \*     #include/,/^ \*     }$/s/^ \*\( \{5\}\)\{0,1\}//p' include/bez
 gcc -std=c99 "${strict[@]}" "$made/example.c" "$archive" -o "$made/example"
 "$made/example" | diff - <(echo '80 pJ')
 
-# the archive: the header's five functions and no other public name
+# the archive: the header's five functions and no other public name, and memset is all that it asks for
 if command -v nm >/dev/null; then
     nm -g --defined-only "$archive" | awk 'NF == 3 { print $3 }' | sort |
         diff - <(printf 'bezowik_%s\n' backward check cost forward make)
+    nm -u "$archive" | awk 'NF == 2 { print $2 }' | sort -u | diff - <(echo memset)
 else
-    echo "C example: no nm here, so the archive's public names are not looked at"
+    echo "C example: no nm here, so the archive's names are not looked at"
 fi
 
 # the example

@@ -102,7 +102,11 @@ fn shared(string: &[u16], other: &[u16], way: Way) -> usize
 pub fn ends_with(string: &[u16], other: &[u16]) -> bool
     ensures { result ≡ ends other.now string.now }
 {
-    string.ends_with(other)
+    if string.len() < other.len() {
+        return false;
+    }
+    let from = string.len() - other.len();
+    other == &string[from..]
 }
 
 // Whether an earlier keyword has the units of the one at place i.

@@ -21,11 +21,6 @@ has c = has_at c.args.words.shaped (omega (arith, c.count_of.ensures))
 pub item_at-requires : goal.item_at-requires
 item_at-requires c = has (goal.at.item_at-requires c).In-loop-i
 
-pub returns-then-from-number : goal.returns-then-from-number
-returns-then-from-number c =
-    let here = has (goal.at.returns-then-from-number c).In-loop-i in
-    (here, λ k m e. place_names c.args.words.sound (c.loop-i.i - 1) here.within k m (e ∙ sym c.if-from-number.true ∙ c.from.ensures ∙ c.item_at.ensures.number))
-
 pub loop-i-preserved : goal.loop-i-preserved
 loop-i-preserved c =
     let ks = keywords_in c.args.words.list.now in
@@ -33,6 +28,11 @@ loop-i-preserved c =
     let other : j ≡ c.loop-i.i - 1 → ⊥ =
     λ same. c.if-from-number.false (c.from.ensures ∙ c.item_at.ensures.number ∙ ap (λ (i : ℕ). (nth ks i).number) (sym same) ∙ e) in
     omega (arith, c.loop-i.invariant j q e)
+
+pub returns-then-from-number : goal.returns-then-from-number
+returns-then-from-number c =
+    let here = has (goal.at.returns-then-from-number c).In-loop-i in
+    (here, λ k m e. place_names c.args.words.sound (c.loop-i.i - 1) here.within k m (e ∙ sym c.if-from-number.true ∙ c.from.ensures ∙ c.item_at.ensures.number))
 
 pub unreachable-requires : goal.unreachable-requires
 unreachable-requires c =
