@@ -6,10 +6,10 @@ pub mod answer; // answer.rt: an answer in its twenty bytes
 ghost use Rattle.std.specs.Prelude.{◌≡◌, ◌≤◌, ◌<◌, length};
 ghost use Rattle.rules.specs.sets.Limits.{answer_size};
 ghost use Rattle.rules.specs.scans.Hits.{over};
-ghost use Rattle.rules.specs.answers.Answers.{told, answer_bytes};
+ghost use Rattle.rules.specs.answers.Answers.{told, told_counted, answer_bytes};
 ghost use Rattle.bezowik.specs.Calls.{told_of};
 ghost use Rattle.bezowik.specs.declared.answer.Answer.{Answer};
-ghost use Rattle.rules.specs.answers.Promises.{host_told, Host};
+ghost use Rattle.rules.specs.answers.Promises.{host_told, Host, Forward, Backward, Make, Check};
 ghost use Rattle.bezowik.specs.Calls.{ForwardCall, BackwardCall, MakeCall, CheckCall};
 
 use crate::answer::Answer;
@@ -65,7 +65,10 @@ pub fn bezowik_forward(
     ensures { ForwardCall set.now trace.now workspace.old hits.old answer.old result
         workspace.new hits.new answer.new }
 {
-    let mut scans = || scan(set, trace, workspace, hits);
+    let mut scans = ||
+        ensures { Forward set.entry.now trace.entry.now workspace.entry.now hits.entry.now (told result)
+            workspace.exit.now hits.exit.now }
+    { scan(set, trace, workspace, hits) };
     answered(answer, &mut scans).number
 }
 
@@ -83,7 +86,10 @@ pub fn bezowik_backward(
         workspace.old hits.old answer.old result
         workspace.new hits.new answer.new }
 {
-    let mut scans = || scan_backward(set, trace, row_file, byte_file, workspace, hits);
+    let mut scans = ||
+        ensures { Backward set.entry.now trace.entry.now row_file.entry.now byte_file.entry.now
+            workspace.entry.now hits.entry.now (told result) workspace.exit.now hits.exit.now }
+    { scan_backward(set, trace, row_file, byte_file, workspace, hits) };
     answered(answer, &mut scans).number
 }
 
@@ -100,7 +106,11 @@ pub fn bezowik_make(
         answer.old result
         workspace.new row_buffer.new byte_buffer.new answer.new }
 {
-    let mut makes = || make(set, workspace, row_buffer, byte_buffer);
+    let mut makes = ||
+        ensures { Make set.entry.now workspace.entry.now row_buffer.entry.now byte_buffer.entry.now
+            (told_counted result)
+            workspace.exit.now row_buffer.exit.now byte_buffer.exit.now }
+    { make(set, workspace, row_buffer, byte_buffer) };
     answered(answer, &mut makes).number
 }
 
@@ -116,6 +126,9 @@ pub fn bezowik_check(
         answer.old result
         workspace.new answer.new }
 {
-    let mut checks = || check(set, row_file, byte_file, workspace);
+    let mut checks = ||
+        ensures { Check set.entry.now row_file.entry.now byte_file.entry.now workspace.entry.now
+            (told_counted result) workspace.exit.now }
+    { check(set, row_file, byte_file, workspace) };
     answered(answer, &mut checks).number
 }
