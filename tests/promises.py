@@ -3,7 +3,7 @@
 
 Every public function stands in its crate's table, with a theorem or an equation and with two edits at least; no function, theorem or edit
 stands there that is not in the tree; every edit stands there; and "nothing" is required exactly where there is no `requires`. A method
-counts as a function.
+counts as a function, and so does an `impl` that promises by a ghost member, as `From<Refusal>`.
 """
 import re
 import sys
@@ -14,6 +14,7 @@ FUNCTION = re.compile(
     r"^ *(pub|pub\(crate\)) (?:extern \"C\" )?fn (\w+)[^{]*?(?:\bghost \w+: \{[^{}]*\}\s*)?(\brequires\b|\bensures\b|\{)",
     re.M | re.S,
 )
+IMPL = re.compile(r"^impl ([\w:<>, ]+) for \w+ \{\n(.*?)^\}", re.M | re.S)
 NAME = re.compile(r"`([^`]+)`")
 
 
@@ -22,8 +23,10 @@ class Crate:
 
     def __init__(self, folder):
         self.name = folder.name
-        found = [m.groups() for file in sorted((folder / "src").glob("*.rt")) for m in FUNCTION.finditer(file.read_text())]
-        self.public = {name for access, name, _ in found if access == "pub"}
+        sources = [file.read_text() for file in sorted((folder / "src").glob("*.rt"))]
+        found = [m.groups() for source in sources for m in FUNCTION.finditer(source)]
+        promising = {name for source in sources for name, body in IMPL.findall(source) if re.search(r"ghost (from_gives|output) =", body)}
+        self.public = {name for access, name, _ in found if access == "pub"} | promising
         self.own = {name for access, name, _ in found if access != "pub"}
         self.asking = {name for _, name, word in found if word == "requires"}
         self.edits = {edit.stem for edit in (folder / "must-fail").glob("*.edit")}

@@ -57,6 +57,11 @@ impl Refusal {
 
 // "refusal", the number and the place.
 impl fmt::Display for Refusal {
+    ghost use Rattle.std.specs.Prelude.{Some};
+    ghost use Rattle.rules.specs.answers.Answers.{refusal_text};
+
+    ghost output = { λ why. Some (refusal_text why) };
+
     fn fmt<W: fmt::Write>(&self, f: &mut fmt::Formatter<W>) -> fmt::Result {
         write!(f, "refusal {} {}", self.number(), self.place())
     }

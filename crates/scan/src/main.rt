@@ -1,7 +1,7 @@
 // The small program: the forward scan of text.bin with set.bin, both in the working folder, printed.
 #![tactic(auto)]
 
-ghost use Rattle.std.specs.Prelude.{◌≤◌, length};
+ghost use Rattle.std.specs.Prelude.{◌≤◌, length, IfSome};
 
 use forward::scan;
 use rules::{Totals, WORKSPACE};
@@ -30,7 +30,9 @@ fn fill(file: &mut File, buffer: &mut [u8]) -> usize
 }
 
 // The bytes of a file, read into a buffer; none where the file is missing or longer than the most.
-fn load<'a>(rt: &HostRuntime, path: &str, buffer: &'a mut [u8; ROOM]) -> Option<&'a [u8]> {
+fn load<'a>(rt: &HostRuntime, path: &str, buffer: &'a mut [u8; ROOM]) -> Option<&'a [u8]>
+    ensures { IfSome result (λ bytes. length bytes.now ≤ MOST) }
+{
     let mut file = File::open(rt, path).ok()?;
     let size = fill(&mut file, buffer);
     if MOST < size {

@@ -5,6 +5,7 @@ use mathlib.Core.Logic.{◌⊎◌, inl, inr}
 use mathlib.Core.Bool.{Bool, true, false, ◌&&◌, ◌||◌, cond, true≢false, or_assoc}
 use mathlib.Core.List.Memᴰ
 use mathlib.Core.List.{List, [], ◌∷◌, ◌++◌, append-nil, Memᴰ}
+use lib.ListN.{length}
 use lib.Dec.{eqb}
 use lib.Pointwise.{pointwise}
 use Rattle.std.specs.List.{list_any}
@@ -75,6 +76,10 @@ same_true (x ∷ a) (y ∷ b) h =
     let head : x ≡ y = eqb-true x y (and_left (eqb x y) (same a b) h) in
     let tail : a ≡ b = same_true a b (and_right (eqb x y) (same a b) h) in
     cc
+
+-- strings of two lengths never are
+pub same_unlike : (a b : List ℕ) → (length a ≡ length b → ⊥) → same a b ≡ false
+same_unlike a b h = fails (same a b) (λ t. h (ap length (same_true a b t)))
 
 pub same_refl : (a : List ℕ) → same a a ≡ true
 unfolding same

@@ -1,5 +1,5 @@
 -- What document 01 says of each answer: its number, its place and its values.
-use Rattle.std.specs.Prelude.{ℕ, zero, suc, ◌/◌, ◌%◌, List, [], ◌∷◌, ◌++◌, Result, Ok, Err}
+use Rattle.std.specs.Prelude.{ℕ, zero, suc, ◌/◌, ◌%◌, List, [], ◌∷◌, ◌++◌, Result, Ok, Err, codes, decimal}
 use Rattle.rules.specs.declared.Totals.{Totals}
 use Rattle.rules.specs.declared.Refusal.{Refusal}
 use Rattle.rules.specs.declared.Refusal.TheVariants.{SetEmpty, SetSize, TooManyKeywords, Length, Padding, Repeated, TraceTooLong, WorkspaceShort, RowFileSize, RowNamesAnother, RowNumber, ByteFileSize, FarNumber, RowBufferShort, ByteBufferShort, AnswerShort}
@@ -28,6 +28,10 @@ number_of r = (number_and_place r).0
 
 abbrev pub place_of : Refusal → ℕ
 place_of r = (number_and_place r).1
+
+-- what the program prints of it
+abbrev pub refusal_text : Refusal → List ℕ
+refusal_text r = codes "refusal " ++ decimal (number_of r) ++ codes " " ++ decimal (place_of r)
 
 -- an answer in document 01's numbers; number 0 is no refusal
 pub record Told : Type 0 where
